@@ -1,0 +1,1 @@
+// No code: in specs/ the assignment problem by its definition, in proofs/ its laws.

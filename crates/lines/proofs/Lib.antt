@@ -1,0 +1,9 @@
+pub mod Tests
+pub mod Puts
+pub mod Sums
+pub mod Counts
+pub mod Firsts
+pub mod Signed
+pub mod Leasts
+pub mod Sumsℤ
+pub mod Squares

@@ -1,0 +1,42 @@
+-- Sums of integers over the indices below n.
+use mathlib.Core.Path.{_≡_, refl, sym, ap, ap₂, _∙_}
+use Prim.Native.Nat.{ℕ, zero, suc, _+_, _*_, _≤_, _<_}
+use native.Mathlib.Omega.{arith}
+use lib.IntN.{ℤ, pos, _+ℤ_}
+use lib.Signed.{_≤ℤ_, ≤ℤ-refl}
+use Rattle.lines.specs.Sum.{sum, sumℤ}
+use Rattle.lines.proofs.Signed.{signed, plus-parts}
+
+pub sumℤ-ext : (f g : ℕ → ℤ) (n : ℕ) → ((i : ℕ) → i < n → f i ≡ g i) → sumℤ f n ≡ sumℤ g n
+unfolding sumℤ
+sumℤ-ext f g zero e = refl
+sumℤ-ext f g (suc n) e = ap₂ _+ℤ_ (sumℤ-ext f g n (λ i h. e i (omega arith))) (e n (omega arith))
+
+pub sumℤ-mono : (f g : ℕ → ℤ) (n : ℕ) → ((i : ℕ) → i < n → f i ≤ℤ g i) → sumℤ f n ≤ℤ sumℤ g n
+unfolding sumℤ
+sumℤ-mono f g zero e = ≤ℤ-refl (pos 0)
+sumℤ-mono f g (suc n) e =
+    let a = sumℤ-mono f g n (λ i h. e i (omega arith)) in
+    let b = e n (omega arith) in
+    omega (signed, plus-parts (sumℤ f n) (f n), plus-parts (sumℤ g n) (g n))
+
+pub sumℤ-add : (f g : ℕ → ℤ) (n : ℕ) → sumℤ (λ i. f i +ℤ g i) n ≡ sumℤ f n +ℤ sumℤ g n
+unfolding sumℤ
+sumℤ-add f g zero = refl
+sumℤ-add f g (suc n) =
+    let h = sumℤ-add f g n in
+    let s = sumℤ (λ i. f i +ℤ g i) n in
+    omega (
+      signed,
+      plus-parts s (f n +ℤ g n),
+      plus-parts (f n) (g n),
+      plus-parts (sumℤ f n) (sumℤ g n),
+      plus-parts (sumℤ f n) (f n),
+      plus-parts (sumℤ g n) (g n),
+      plus-parts (sumℤ f n +ℤ f n) (sumℤ g n +ℤ g n),
+    )
+
+pub sumℤ-pos : (f : ℕ → ℕ) (n : ℕ) → sumℤ (λ i. pos (f i)) n ≡ pos (sum f n)
+unfolding sumℤ sum
+sumℤ-pos f zero = refl
+sumℤ-pos f (suc n) = ap (λ x. x +ℤ pos (f n)) (sumℤ-pos f n)

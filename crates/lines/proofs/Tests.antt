@@ -1,0 +1,48 @@
+-- Tests and what they say: from a Bool to a fact, and back.
+use mathlib.Core.Path.{_≡_, refl}
+use mathlib.Core.Logic.{_≢_, _⊎_, inl, inr}
+use mathlib.Core.Bool.{Bool, true, false, not, _&&_}
+use Prim.Native.Nat.{ℕ}
+use lib.Dec.{T, not-T, eqb, eqb→eq, eqb-refl}
+
+pub T-or : (b : Bool) → T b ⊎ T (not b)
+T-or true = inl tt
+T-or false = inr tt
+
+pub both : (x y : Bool) → T x → T y → T (x && y)
+both true y t u = u
+both false y t u = t
+
+pub and-left : (x y : Bool) → T (x && y) → T x
+and-left true y t = tt
+and-left false y t = t
+
+pub and-right : (x y : Bool) → T (x && y) → T y
+and-right true y t = t
+and-right false y t = absurd t
+
+pub T-yes : (b : Bool) → (T (not b) → ⊥) → T b
+T-yes true f = tt
+T-yes false f = f tt
+
+pub T-true : (b : Bool) → T b → b ≡ true
+T-true true t = refl
+T-true false t = absurd t
+
+pub T-false : (b : Bool) → T (not b) → b ≡ false
+T-false true t = absurd t
+T-false false t = refl
+
+-- tests that agree in what they say are equal
+pub T-same : (a b : Bool) → (T a → T b) → (T b → T a) → a ≡ b
+T-same true true f g = refl
+T-same true false f g = absurd (f tt)
+T-same false true f g = absurd (g tt)
+T-same false false f g = refl
+
+-- a test for equality, from the fact
+pub eqb-yes : (m v : ℕ) → m ≡ v → T (eqb m v)
+eqb-yes m v e = rw e (eqb-refl v)
+
+pub eqb-no : (m v : ℕ) → m ≢ v → T (not (eqb m v))
+eqb-no m v ne = not-T (eqb m v) (λ t. ne (eqb→eq m v t))

@@ -1,0 +1,6 @@
+pub mod Lent
+pub mod Refusal
+pub mod Steps
+pub mod Outcome
+
+pub mod Samples

@@ -1,0 +1,5 @@
+pub mod Sum
+pub mod Count
+pub mod First
+pub mod Square
+pub mod Sets
