@@ -7,6 +7,7 @@ use native.Mathlib.Decide.{ℕ-discrete, decLt}
 use native.Mathlib.Omega.{arith}
 use lib.Dec.{T, T-not, not-T, ltb, ltb→lt, lt→ltb, nltb→le}
 use Rattle.lines.specs.First.{first-on, first, any}
+use Rattle.lines.proofs.Tests.{T-same}
 
 -- what a scan from 0 upwards finds
 pub record First (b : ℕ → Bool) (n v : ℕ) : Type 0 where
@@ -73,3 +74,7 @@ any-is b n t = let h : first b n < n = ltb→lt _ n t in (first b n, h, first-is
 
 pub any-no : (b : ℕ → Bool) (n : ℕ) → T (not (any b n)) → (i : ℕ) → i < n → T (not (b i))
 any-no b n t i h = not-T (b i) (λ u. T-not (any b n) t (any-yes b n i h u))
+
+-- what a search finds, that is a number or n, is below n where the number is
+pub ltb-min : (m n : ℕ) → ltb (min m n) n ≡ ltb m n
+ltb-min m n = T-same (ltb (min m n) n) (ltb m n) (λ t. lt→ltb m n (omega (arith, ltb→lt (min m n) n t))) (λ t. lt→ltb (min m n) n (omega (arith, ltb→lt m n t)))

@@ -7,3 +7,4 @@ pub mod Signed
 pub mod Leasts
 pub mod Sumsℤ
 pub mod Squares
+pub mod Sets

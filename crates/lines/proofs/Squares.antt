@@ -75,6 +75,13 @@ module _ {A : Type 0} where
   table-ext f g zero e = refl
   table-ext f g (suc n) e = ap (λ x. x ∷ table (λ i. f (suc i)) n) (e 0 (omega arith)) ∙ ap (λ l. g 0 ∷ l) (table-ext _ _ n (λ i h. e (suc i) (omega arith)))
 
+  -- the same everywhere, also past the end
+  pub table-all : (d : A) (n i : ℕ) → getD (table (λ k. d) n) i d ≡ d
+  unfolding table
+  table-all d zero i = refl
+  table-all d (suc n) zero = refl
+  table-all d (suc n) (suc i) = table-all d n i
+
   pub length-square : (f : ℕ → ℕ → A) (n : ℕ) → length (square f n) ≡ n * n
   unfolding square
   length-square f n = length-table _ (n * n)
@@ -84,6 +91,10 @@ module _ {A : Type 0} where
   square-at d f n i j hi hj =
       let q = place-of n i j hj in
       table-at d (λ q. f (q / n) (q % n)) (n * n) (i * n + j) (place-lt n i j hi hj) ∙ ap (λ x. f x ((i * n + j) % n)) (q .0) ∙ ap (λ x. f i x) (q .1)
+
+  pub square-all : (d : A) (n i j : ℕ) → cell d n (square (λ i j. d) n) i j ≡ d
+  unfolding square
+  square-all d n i j = table-all d (n * n) (i * n + j)
 
   pub square-ext : (f g : ℕ → ℕ → A) (n : ℕ) → ((i j : ℕ) → i < n → j < n → f i j ≡ g i j) → square f n ≡ square g n
   unfolding square

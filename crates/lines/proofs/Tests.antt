@@ -1,7 +1,7 @@
 -- Tests and what they say: from a Bool to a fact, and back.
 use mathlib.Core.Path.{_≡_, refl}
 use mathlib.Core.Logic.{_≢_, _⊎_, inl, inr}
-use mathlib.Core.Bool.{Bool, true, false, not, _&&_}
+use mathlib.Core.Bool.{Bool, true, false, not, _&&_, true≢false, false≢true}
 use Prim.Native.Nat.{ℕ}
 use lib.Dec.{T, not-T, eqb, eqb→eq, eqb-refl}
 
@@ -46,3 +46,12 @@ eqb-yes m v e = rw e (eqb-refl v)
 
 pub eqb-no : (m v : ℕ) → m ≢ v → T (not (eqb m v))
 eqb-no m v ne = not-T (eqb m v) (λ t. ne (eqb→eq m v t))
+
+-- by the two values of a test, with the equation kept; and a test that has both
+pub by-cases {ℓ} : {P : Type ℓ} (b : Bool) → (b ≡ true → P) → (b ≡ false → P) → P
+by-cases true f g = f refl
+by-cases false f g = g refl
+
+pub clash {ℓ} : {P : Type ℓ} (b : Bool) → b ≡ true → b ≡ false → P
+clash true y n = absurd (true≢false n)
+clash false y n = absurd (false≢true y)

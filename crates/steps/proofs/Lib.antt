@@ -1,1 +1,11 @@
 pub mod Turns
+pub mod Matching
+pub mod Flip
+pub mod Marks
+pub mod Path
+pub mod Phase
+pub mod Runs
+pub mod Shape
+pub mod Adjusted
+pub mod Priced
+pub mod Search

@@ -33,34 +33,34 @@ unfolding is-zero
 is-zero-pos = eqb-refl 0
 
 -- an allowed cell in an uncovered row and column
-pub record Open (ok : ℕ → ℕ → Bool) (r : Run) (i j : ℕ) : Type 0 where
-  pub row : T (not (has (r .rows) i))
-  pub column : T (not (has (r .columns) j))
+pub record Open (ok : ℕ → ℕ → Bool) (rows columns i j : ℕ) : Type 0 where
+  pub row : T (not (has rows i))
+  pub column : T (not (has columns j))
   pub allowed : T (ok i j)
 
 module _ (n : ℕ) (ok : ℕ → ℕ → Bool) where
   -- one with working value 0
-  pub record OpenZero (working : List ℤ) (r : Run) (i j : ℕ) : Type 0 where
+  pub record OpenZero (working : List ℤ) (rows columns i j : ℕ) : Type 0 where
     pub row-below : i < n
     pub column-below : j < n
-    pub is-open : Open ok r i j
+    pub is-open : Open ok rows columns i j
     pub zero : cell (pos 0) n working i j ≡ pos 0
 
-  abbrev pub NoZero : List ℤ → Run → Type 0
-  NoZero working r = (i j : ℕ) → i < n → j < n → Open ok r i j → cell (pos 0) n working i j ≢ pos 0
+  abbrev pub NoZero : List ℤ → ℕ → ℕ → Type 0
+  NoZero working rows columns = (i j : ℕ) → i < n → j < n → Open ok rows columns i j → cell (pos 0) n working i j ≢ pos 0
 
-  abbrev pub NoOpen : Run → Type 0
-  NoOpen r = (i j : ℕ) → i < n → j < n → Open ok r i j → ⊥
+  abbrev pub NoOpen : ℕ → ℕ → Type 0
+  NoOpen rows columns = (i j : ℕ) → i < n → j < n → Open ok rows columns i j → ⊥
 
   -- z is the least working value of the open cells, and there is one
-  pub record Lowest (working : List ℤ) (r : Run) (z : ℤ) : Type 0 where
+  pub record Lowest (working : List ℤ) (rows columns : ℕ) (z : ℤ) : Type 0 where
     pub row : ℕ
     pub column : ℕ
     pub row-below : row < n
     pub column-below : column < n
-    pub is-open : Open ok r row column
+    pub is-open : Open ok rows columns row column
     pub value : cell (pos 0) n working row column ≡ z
-    pub low : (i j : ℕ) → i < n → j < n → Open ok r i j → z ≤ℤ cell (pos 0) n working i j
+    pub low : (i j : ℕ) → i < n → j < n → Open ok rows columns i j → z ≤ℤ cell (pos 0) n working i j
 
   -- ---- step 4's search
 
@@ -68,7 +68,7 @@ module _ (n : ℕ) (ok : ℕ → ℕ → Bool) where
     zero? : ℕ → ℕ → Bool
     zero? i j = uncovered r i j && zero-at n ok working i j
 
-    zero?-is : (i j : ℕ) → i < n → j < n → T (zero? i j) → OpenZero working r i j
+    zero?-is : (i j : ℕ) → i < n → j < n → T (zero? i j) → OpenZero working (r .rows) (r .columns) i j
     unfolding zero? uncovered zero-at
     zero?-is i j hi hj t =
         let u = and-left (not (has (r .rows) i) && not (has (r .columns) j)) _ t in
@@ -80,20 +80,20 @@ module _ (n : ℕ) (ok : ℕ → ℕ → Bool) where
           zero = zero-is _ (and-right (ok i j) _ z);
         }
 
-    is-zero? : (i j : ℕ) → Open ok r i j → cell (pos 0) n working i j ≡ pos 0 → T (zero? i j)
+    is-zero? : (i j : ℕ) → Open ok (r .rows) (r .columns) i j → cell (pos 0) n working i j ≡ pos 0 → T (zero? i j)
     unfolding zero? uncovered zero-at
     is-zero? i j o e =
         both (not (has (r .rows) i) && not (has (r .columns) j)) _ (both (not (has (r .rows) i)) _ (o .row) (o .column))
         (both (ok i j) _ (o .allowed) (rw e is-zero-pos))
 
-    pub zero-found : zero-column n ok working r < n → OpenZero working r (zero-in-column n ok working r (zero-column n ok working r)) (zero-column n ok working r)
+    pub zero-found : zero-column n ok working r < n → OpenZero working (r .rows) (r .columns) (zero-in-column n ok working r (zero-column n ok working r)) (zero-column n ok working r)
     unfolding zero-column zero-in-column zero?
     zero-found h =
         let j = zero-column n ok working r in
         let l : zero-in-column n ok working r j < n = ltb→lt _ _ (first-is (λ j. ltb (zero-in-column n ok working r j) n) n .hit h) in
         zero?-is _ j l h (first-is (λ i. zero? i j) n .hit l)
 
-    pub zero-none : n ≤ zero-column n ok working r → NoZero working r
+    pub zero-none : n ≤ zero-column n ok working r → NoZero working (r .rows) (r .columns)
     unfolding zero-column zero-in-column zero?
     zero-none h i j hi hj o e =
         let l : n ≤ zero-in-column n ok working r j = nltb→le _ _ (first-is (λ j. ltb (zero-in-column n ok working r j) n) n .before j (omega arith)) in
@@ -104,23 +104,23 @@ module _ (n : ℕ) (ok : ℕ → ℕ → Bool) where
     open? : ℕ → ℕ → Bool
     open? i j = uncovered r i j && ok i j
 
-    open?-is : (i j : ℕ) → T (open? i j) → Open ok r i j
+    open?-is : (i j : ℕ) → T (open? i j) → Open ok (r .rows) (r .columns) i j
     unfolding open? uncovered
     open?-is i j t =
         let u = and-left (not (has (r .rows) i) && not (has (r .columns) j)) _ t in
         record { row = and-left (not (has (r .rows) i)) _ u; column = and-right (not (has (r .rows) i)) _ u; allowed = and-right (not (has (r .rows) i) && not (has (r .columns) j)) _ t }
 
-    is-open? : (i j : ℕ) → Open ok r i j → T (open? i j)
+    is-open? : (i j : ℕ) → Open ok (r .rows) (r .columns) i j → T (open? i j)
     unfolding open? uncovered
     is-open? i j o = both (not (has (r .rows) i) && not (has (r .columns) j)) _ (both (not (has (r .rows) i)) _ (o .row) (o .column)) (o .allowed)
 
-    low-at : (i j : ℕ) → i < n → j < n → Open ok r i j → (lowest n ok working r < n * n) × (getD working (lowest n ok working r) (pos 0) ≤ℤ cell (pos 0) n working i j)
+    low-at : (i j : ℕ) → i < n → j < n → Open ok (r .rows) (r .columns) i j → (lowest n ok working r < n * n) × (getD working (lowest n ok working r) (pos 0) ≤ℤ cell (pos 0) n working i j)
     unfolding lowest open?
     low-at i j hi hj o =
         let q = place-of n i j hj in
         least-is (λ q. open? (q / n) (q % n)) (λ q. getD working q (pos 0)) (n * n) .low (i * n + j) (place-lt n i j hi hj) (rw (q .0, q .1) (is-open? i j o))
 
-    pub lowest-found : lowest n ok working r < n * n → Lowest working r (getD working (lowest n ok working r) (pos 0))
+    pub lowest-found : lowest n ok working r < n * n → Lowest working (r .rows) (r .columns) (getD working (lowest n ok working r) (pos 0))
     unfolding lowest open?
     lowest-found h =
         let v = lowest n ok working r in
@@ -135,7 +135,7 @@ module _ (n : ℕ) (ok : ℕ → ℕ → Bool) where
           low = λ i j hi hj o. low-at i j hi hj o .1;
         }
 
-    pub lowest-none : n * n ≤ lowest n ok working r → NoOpen r
+    pub lowest-none : n * n ≤ lowest n ok working r → NoOpen (r .rows) (r .columns)
     lowest-none h i j hi hj o = omega (arith, low-at i j hi hj o .0)
 
   -- ---- the steps by cases
@@ -155,9 +155,9 @@ module _ (n : ℕ) (ok : ℕ → ℕ → Bool) where
     marked i j = set marks (i * n + j) 2
 
     pub step4-ind : (P : Run × List ℕ → Type 0)
-        → ((i j : ℕ) → OpenZero working r i j → star-in-row n (marked i j) i < n → P (covering i (star-in-row n (marked i j) i) r, marked i j))
-        → ((i j : ℕ) → OpenZero working r i j → n ≤ star-in-row n (marked i j) i → P (reaching i j r, marked i j))
-        → (NoZero working r → P (to Step6 r, marks))
+        → ((i j : ℕ) → OpenZero working (r .rows) (r .columns) i j → star-in-row n (marked i j) i < n → P (covering i (star-in-row n (marked i j) i) r, marked i j))
+        → ((i j : ℕ) → OpenZero working (r .rows) (r .columns) i j → n ≤ star-in-row n (marked i j) i → P (reaching i j r, marked i j))
+        → (NoZero working (r .rows) (r .columns) → P (to Step6 r, marks))
         → P (step4 n ok working r marks)
     unfolding step4
     step4-ind P covers reaches none =
@@ -171,9 +171,9 @@ module _ (n : ℕ) (ok : ℕ → ℕ → Bool) where
 
   module _ (budget : ℕ) (r : Run) (working row-prices column-prices : List ℤ) where
     pub step6-ind : (P : Run × List ℤ × List ℤ × List ℤ → Type 0)
-        → (NoOpen r → P (to NoPairing r, working, row-prices, column-prices))
-        → ((z : ℤ) → Lowest working r z → r .adjustments ≡ budget → P (to Unfinished r, working, row-prices, column-prices))
-        → ((z : ℤ) → Lowest working r z → r .adjustments ≢ budget → P (adjusting r, followed n ok z r working, lowered z r row-prices, raised z r column-prices))
+        → (NoOpen (r .rows) (r .columns) → P (to NoPairing r, working, row-prices, column-prices))
+        → ((z : ℤ) → Lowest working (r .rows) (r .columns) z → r .adjustments ≡ budget → P (to Unfinished r, working, row-prices, column-prices))
+        → ((z : ℤ) → Lowest working (r .rows) (r .columns) z → r .adjustments ≢ budget → P (adjusting r, followed n ok z r working, lowered z r row-prices, raised z r column-prices))
         → P (step6 n ok budget r working row-prices column-prices)
     unfolding step6
     step6-ind P none spent adjusts =

@@ -1,0 +1,3 @@
+pub mod Permuted
+pub mod Duality
+pub mod Blocks

@@ -1,0 +1,229 @@
+-- The invariant *search* on the machine: what its marks and covers mean at each step, and that every step keeps it. It speaks of no price and no count.
+use mathlib.Core.Path.{_≡_, refl, sym, ap, subst, _∙_}
+use mathlib.Core.Logic.{_≢_}
+use mathlib.Core.Bool.{Bool, true, false, not}
+use mathlib.Core.List.{List}
+use Prim.Native.Nat.{ℕ, suc, _+_, _*_, _≤_, _<_}
+use native.Mathlib.Omega.{arith}
+use lib.Dec.{T, not-T, ltb}
+use lib.IntN.{ℤ, pos}
+use lib.ListN.{length, set}
+use Rattle.lines.specs.Count.{count}
+use Rattle.lines.specs.Square.{cell}
+use Rattle.lines.specs.Sets.{has, with, without}
+use Rattle.lines.proofs.Puts.{put, put-at}
+use Rattle.lines.proofs.Counts.{count-le}
+use Rattle.lines.proofs.Firsts.{ltb-min}
+use Rattle.lines.proofs.Sets.{has-empty, has-those, with-put, without-put}
+use Rattle.steps.specs.Steps.{Next, Step3, Step4, Step5, Step6, Paired, NoPairing, Unfinished, Run, Machine, machine, star-in-row, star-in-column, star-columns, star-count, to, step3, covering, reaching, step4, path, flip, clear-primes, step5, adjusting, followed, step6, step-at, step}
+use Rattle.steps.proofs.Turns.{Open, OpenZero, NoZero, NoOpen, Lowest, step3-ind, step4-ind, step6-ind}
+use Rattle.steps.proofs.Matching.{Matching, has-star}
+use Rattle.steps.proofs.Flip as F
+use Rattle.steps.proofs.Marks.{Shows, show-primed, show-bare, show-cleared, find-star, find-row, find-count}
+use Rattle.steps.proofs.Path.{show-flip}
+use Rattle.steps.proofs.Phase.{Phase, phase-start, phase-ext, phase-primed, phase-adjusted, chain′, primes′, one-more, new, open-off}
+use Rattle.steps.proofs.Adjusted.{row-stays, column-stays}
+use Rattle.steps.proofs.Shape.{Shape}
+
+module _ (n : ℕ) (ok : ℕ → ℕ → Bool) where
+  -- an allowed cell with working value 0
+  abbrev pub Zero : List ℤ → ℕ → ℕ → Type 0
+  Zero working i j = T (ok i j) × (cell (pos 0) n working i j ≡ pos 0)
+
+  -- at step 3, and when all is paired: the marks are stars, on zeros, one at most in each row and column
+  pub record Starred (working : List ℤ) (marks : List ℕ) : Type 0 where
+    pub star : ℕ → ℕ
+    pub row : ℕ → ℕ
+    pub shows : Shows n star (λ i. n) marks
+    pub matching : Matching n star row
+    pub zeros : (i : ℕ) → i < n → star i < n → Zero working i (star i)
+
+  -- at steps 4 and 6: the phase, while a star is missing
+  pub record Search (working : List ℤ) (marks : List ℕ) (rows columns : ℕ) : Type 0 where
+    pub star : ℕ → ℕ
+    pub row : ℕ → ℕ
+    pub prime : ℕ → ℕ
+    pub time : ℕ → ℕ
+    pub shows : Shows n star prime marks
+    pub phase : Phase n (Zero working) star row prime time (has rows) (has columns)
+    pub missing : count (has-star n star) n < n
+
+  -- at step 5: the last prime is in a row i without a star
+  pub record Ready (working : List ℤ) (marks : List ℕ) (rows columns i j : ℕ) : Type 0 where
+    pub star : ℕ → ℕ
+    pub row : ℕ → ℕ
+    pub prime : ℕ → ℕ
+    pub time : ℕ → ℕ
+    pub shows : Shows n star (put prime i j) marks
+    pub phase : Phase n (Zero working) star row prime time (has rows) (has columns)
+    pub missing : count (has-star n star) n < n
+    pub last : OpenZero n ok working rows columns i j
+    pub bare : n ≤ star i
+
+  -- by what is next
+  abbrev pub Sound-at : Next → Machine → Type 0
+  Sound-at Step3 m = Starred (m .working) (m .marks) × (m .run .rows ≡ 0)
+  Sound-at Step4 m = Search (m .working) (m .marks) (m .run .rows) (m .run .columns)
+  Sound-at (Step5 i j) m = Ready (m .working) (m .marks) (m .run .rows) (m .run .columns) i j
+  Sound-at Step6 m = Search (m .working) (m .marks) (m .run .rows) (m .run .columns) × NoZero n ok (m .working) (m .run .rows) (m .run .columns)
+  Sound-at Paired m = Starred (m .working) (m .marks) × (star-count n (m .marks) ≡ n)
+  Sound-at NoPairing m = Search (m .working) (m .marks) (m .run .rows) (m .run .columns) × NoOpen n ok (m .run .rows) (m .run .columns)
+  Sound-at Unfinished m = Search (m .working) (m .marks) (m .run .rows) (m .run .columns) × NoZero n ok (m .working) (m .run .rows) (m .run .columns)
+
+  pub record Sound (m : Machine) : Type 0 where
+    pub at-next : Sound-at (m .run .next) m
+
+  -- ---- each step
+
+  module _ {working : List ℤ} {marks : List ℕ} {rows columns : ℕ} where
+    -- step 3: a phase begins
+    pub begun : (s : Starred working marks) → rows ≡ 0 → columns ≡ star-columns n marks → star-count n marks ≢ n → Search working marks rows columns
+    unfolding star-columns
+    begun s e0 e1 part = record {
+      star = s .star;
+      row = s .row;
+      prime = λ i. n;
+      time = λ i. 0;
+      shows = s .shows;
+      phase =
+          phase-start n (Zero working) s.star s.row (has rows) (has columns)
+          (λ i hi. rw e0 (has-empty i))
+          (λ j hj. rw e1 (has-those _ n j hj ∙ ap (λ x. ltb x n) (find-row s.shows s.row s.matching j hj) ∙ ltb-min (s .row j) n))
+          s.matching s.zeros;
+      missing = omega (arith, find-count s.shows, count-le (has-star n s.star) n);
+    }
+
+    -- step 4: a zero at (i, j) is primed
+    module _ (s : Search working marks rows columns) (i j : ℕ) (z : OpenZero n ok working rows columns i j) where
+      abbrev pub marked : List ℕ
+      marked = set marks (i * n + j) 2
+
+      shown : Shows n s.star (put s.prime i j) marked
+      shown =
+          show-primed n s.star s.prime marks i j (z .row-below) (z .column-below)
+          (new s.phase i j (z .row-below) (z .column-below) (z .is-open .row) (z .is-open .column) (z .is-open .allowed, z .zero))
+          (open-off s.phase i j (z .row-below) (z .column-below) (z .is-open .row) (z .is-open .column)) s.shows
+
+      -- its row has a star: the row is covered, and the star's column uncovered
+      pub covered : star-in-row n marked i < n → Search working marked (with rows i) (without columns (star-in-row n marked i))
+      covered h =
+          let e : star-in-row n marked i ≡ s .star i = find-star shown i ∙ (omega (arith, find-star shown i)) in
+          record {
+            star = s .star;
+            row = s .row;
+            prime = put s.prime i j;
+            time = put s.time i (count (has rows) n);
+            shows = shown;
+            phase =
+                phase-ext (has (with rows i)) (has (without columns (star-in-row n marked i)))
+                (λ a ha. with-put rows i a)
+                (λ b hb. without-put columns (star-in-row n marked i) b ∙ ap (λ x. put (has columns) x false b) e)
+                (phase-primed s.phase i j (z .row-below) (z .column-below) (z .is-open .row) (z .is-open .column) (z .is-open .allowed, z .zero) (omega arith));
+            missing = s .missing;
+          }
+
+      -- it has none: step 5 is next
+      pub ready : n ≤ star-in-row n marked i → Ready working marked rows columns i j
+      ready h = record {
+        star = s .star;
+        row = s .row;
+        prime = s .prime;
+        time = s .time;
+        shows = shown;
+        phase = s .phase;
+        missing = s .missing;
+        last = z;
+        bare = omega (arith, find-star shown i);
+      }
+
+    -- step 5: the path is flipped
+    module _ {i j : ℕ} (s : Ready working marks rows columns i j) where
+      abbrev pub prime′ : ℕ → ℕ
+      prime′ = put s.prime i j
+
+      abbrev pub time′ : ℕ → ℕ
+      time′ = put s.time i (count (has rows) n)
+
+      pub chained : (a : ℕ) → a < n → prime′ a < n → s .row (prime′ a) < n → (prime′ (s .row (prime′ a)) < n) × (time′ (s .row (prime′ a)) < time′ a)
+      chained = chain′ s.phase i j (s .last .row-below) (s .last .column-below) (s .last .is-open .row) (s .last .is-open .column) (s .last .is-open .allowed, s .last .zero)
+
+      -- fewer than n rows are covered
+      pub early : time′ i < n
+      early =
+          omega (
+            arith,
+            put-at s.time i (count (has rows) n) i refl,
+            one-more s.phase i j (s .last .row-below) (s .last .column-below) (s .last .is-open .row) (s .last .is-open .column) (s .last .is-open .allowed, s .last .zero),
+            count-le (put (has rows) i true) n,
+          )
+
+      pub at-prime : prime′ i ≡ j
+      at-prime = put-at s.prime i j i refl
+
+      abbrev pub star′ : ℕ → ℕ
+      star′ = F.starred prime′ s.star (F.on-path prime′ n s.row n i)
+
+      abbrev pub row′ : ℕ → ℕ
+      row′ = F.rowed prime′ s.row (F.on-path prime′ n s.row n i)
+
+      pub flipped : F.Flipped n (Zero working) s.star s.row i star′ row′
+      flipped =
+          F.flip n prime′ time′ s.row chained (Zero working)
+          (primes′ s.phase i j (s .last .row-below) (s .last .column-below) (s .last .is-open .row) (s .last .is-open .column) (s .last .is-open .allowed, s .last .zero))
+          n s.star i (s .last .row-below) (rw at-prime (s .last .column-below)) early s.bare (s .phase .matching) (s .phase .stars)
+
+      pub augmented : Starred working (clear-primes (flip n marks (path n marks n i j)))
+      augmented = record {
+        star = star′;
+        row = row′;
+        shows =
+            show-cleared n star′ prime′ _
+            (rw at-prime at (show-flip s.shows time′ s.row (s .phase .matching) chained n s.star s.row i marks early
+            (F.walk-start n prime′ time′ s.row chained s.star i (s .last .row-below) (rw at-prime (s .last .column-below)) s.bare (s .phase .matching))
+            (show-bare n s.star prime′ marks i s.bare s.shows)));
+        matching = flipped .matching;
+        zeros = flipped .holds;
+      }
+
+  -- step 6: cells on one covered line keep their working values
+  pub adjusted : {working : List ℤ} {marks : List ℕ} (z : ℤ) (r : Run) → length working ≡ n * n → Search working marks (r .rows) (r .columns)
+      → Search (followed n ok z r working) marks (r .rows) (r .columns)
+  adjusted {working} z r size s = record {
+    star = s .star;
+    row = s .row;
+    prime = s .prime;
+    time = s .time;
+    shows = s .shows;
+    phase =
+        phase-adjusted s.phase (Zero (followed n ok z r working))
+        (λ i j hi hj t u o. (o .0, row-stays n ok z r working size i j hi hj t u ∙ o .1))
+        (λ i j hi hj t u o. (o .0, column-stays n ok z r working size i j hi hj t u ∙ o .1));
+    missing = s .missing;
+  }
+
+  -- ---- every step
+
+  module _ (budget : ℕ) where
+    pub sound-step : (m : Machine) → Shape n m → Sound m → Sound (step n ok budget m)
+    unfolding step step-at step5 covering reaching adjusting
+    sound-step m shape sound = go (m .run .next) (sound .at-next)
+      where
+        go : (x : Next) → Sound-at x m → Sound (step-at n ok budget x m)
+        go Step3 h =
+            step3-ind n ok (m .marks) (m .run) (λ o. Sound (machine o (m .working) (m .marks) (m .row-prices) (m .column-prices)))
+            (λ full. record { at-next = (h .0, full) })
+            (λ part. record { at-next = begun (h .0) (h .1) refl part })
+        go Step4 s =
+            step4-ind n ok (m .working) (m .run) (m .marks) (λ o. Sound (machine (o .0) (m .working) (o .1) (m .row-prices) (m .column-prices)))
+            (λ i j z h. record { at-next = covered s i j z h })
+            (λ i j z h. record { at-next = ready s i j z h })
+            (λ none. record { at-next = (s, none) })
+        go (Step5 i j) s = record { at-next = (augmented s, refl) }
+        go Step6 h =
+            step6-ind n ok budget (m .run) (m .working) (m .row-prices) (m .column-prices) (λ o. Sound (machine (o .0) (o .1) (m .marks) (o .2) (o .3)))
+            (λ none. record { at-next = (h .0, none) })
+            (λ z l e. record { at-next = (h .0, h .1) })
+            (λ z l e. record { at-next = adjusted z (m .run) (shape .working) (h .0) })
+        go Paired h = sound
+        go NoPairing h = sound
+        go Unfinished h = sound
