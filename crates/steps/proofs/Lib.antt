@@ -9,3 +9,5 @@ pub mod Shape
 pub mod Adjusted
 pub mod Priced
 pub mod Search
+pub mod Settles
+pub mod Limits

@@ -12,7 +12,7 @@ use Rattle.lines.specs.Count.{count}
 use Rattle.lines.specs.Square.{cell}
 use Rattle.lines.specs.Sets.{has, with, without}
 use Rattle.lines.proofs.Puts.{put, put-at}
-use Rattle.lines.proofs.Counts.{count-le}
+use Rattle.lines.proofs.Counts.{count-ext, count-le, bit-ge}
 use Rattle.lines.proofs.Firsts.{ltb-min}
 use Rattle.lines.proofs.Sets.{has-empty, has-those, with-put, without-put}
 use Rattle.steps.specs.Steps.{Next, Step3, Step4, Step5, Step6, Paired, NoPairing, Unfinished, Run, Machine, machine, star-in-row, star-in-column, star-columns, star-count, to, step3, covering, reaching, step4, path, flip, clear-primes, step5, adjusting, followed, step6, step-at, step}
@@ -136,6 +136,15 @@ module _ (n : ℕ) (ok : ℕ → ℕ → Bool) where
         bare = omega (arith, find-star shown i);
       }
 
+      -- no star came or went, and where a row was covered there is one more
+      pub same-stars : star-count n marked ≡ star-count n marks
+      same-stars = find-count shown ∙ sym (find-count s.shows)
+
+      pub one-row-more : count (has (with rows i)) n ≡ suc (count (has rows) n)
+      one-row-more =
+          count-ext _ _ n (λ a ha. with-put rows i a)
+          ∙ one-more s.phase i j (z .row-below) (z .column-below) (z .is-open .row) (z .is-open .column) (z .is-open .allowed, z .zero)
+
     -- step 5: the path is flipped
     module _ {i j : ℕ} (s : Ready working marks rows columns i j) where
       abbrev pub prime′ : ℕ → ℕ
@@ -172,7 +181,7 @@ module _ (n : ℕ) (ok : ℕ → ℕ → Bool) where
           (primes′ s.phase i j (s .last .row-below) (s .last .column-below) (s .last .is-open .row) (s .last .is-open .column) (s .last .is-open .allowed, s .last .zero))
           n s.star i (s .last .row-below) (rw at-prime (s .last .column-below)) early s.bare (s .phase .matching) (s .phase .stars)
 
-      pub augmented : Starred working (clear-primes (flip n marks (path n marks n i j)))
+      abbrev pub augmented : Starred working (clear-primes (flip n marks (path n marks n i j)))
       augmented = record {
         star = star′;
         row = row′;
@@ -184,6 +193,11 @@ module _ (n : ℕ) (ok : ℕ → ℕ → Bool) where
         matching = flipped .matching;
         zeros = flipped .holds;
       }
+
+      pub one-star-more : star-count n (clear-primes (flip n marks (path n marks n i j))) ≡ suc (star-count n marks)
+      one-star-more =
+          let e : star-count n (clear-primes (flip n marks (path n marks n i j))) ≡ count (has-star n star′) n = find-count (augmented .shows) in
+          omega (arith, e, find-count s.shows, flipped .more, bit-ge (s .star i) n s.bare)
 
   -- step 6: cells on one covered line keep their working values
   pub adjusted : {working : List ℤ} {marks : List ℕ} (z : ℤ) (r : Run) → length working ≡ n * n → Search working marks (r .rows) (r .columns)

@@ -141,14 +141,16 @@ module _ (n : ℕ) (ok : ℕ → ℕ → Bool) where
   -- ---- the steps by cases
 
   module _ (marks : List ℕ) (r : Run) where
-    pub step3-ind : (P : Run → Type 0)
-        → (star-count n marks ≡ n → P (record { rows = r .rows; columns = star-columns n marks; adjustments = r .adjustments; primes = r .primes; augmentations = r .augmentations; next = Paired }))
-        → (star-count n marks ≢ n → P (record { rows = r .rows; columns = star-columns n marks; adjustments = r .adjustments; primes = r .primes; augmentations = r .augmentations; next = Step4 }))
-        → P (step3 n marks r)
+    -- the columns of the stars covered
+    abbrev pub crossed : Next → Run
+    crossed x =
+        record { rows = r .rows; columns = star-columns n marks; adjustments = r .adjustments; primes = r .primes; augmentations = r .augmentations; next = x }
+
+    pub step3-ind : (P : Run → Type 0) → (star-count n marks ≡ n → P (crossed Paired)) → (star-count n marks ≢ n → P (crossed Step4)) → P (step3 n marks r)
     unfolding step3
     step3-ind P full part =
-        cond-ind (λ x. P (record { rows = r .rows; columns = star-columns n marks; adjustments = r .adjustments; primes = r .primes; augmentations = r .augmentations; next = x }))
-        (eqb (star-count n marks) n) Paired Step4 (λ t. full (eqb→eq _ n t)) (λ t. part (λ e. T-not (eqb (star-count n marks) n) t (eqb-yes _ n e)))
+        cond-ind (λ x. P (crossed x)) (eqb (star-count n marks) n) Paired Step4
+        (λ t. full (eqb→eq _ n t)) (λ t. part (λ e. T-not (eqb (star-count n marks) n) t (eqb-yes _ n e)))
 
   module _ (working : List ℤ) (r : Run) (marks : List ℕ) where
     abbrev pub marked : ℕ → ℕ → List ℕ

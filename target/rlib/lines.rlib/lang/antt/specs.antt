@@ -1,5 +1,0 @@
-pub mod Sum
-pub mod Count
-pub mod First
-pub mod Square
-pub mod Sets
