@@ -11,3 +11,5 @@ pub mod Priced
 pub mod Search
 pub mod Settles
 pub mod Limits
+pub mod Start
+pub mod Pace

@@ -200,7 +200,7 @@ module _ (n : ℕ) (ok : ℕ → ℕ → Bool) where
           omega (arith, e, find-count s.shows, flipped .more, bit-ge (s .star i) n s.bare)
 
   -- step 6: cells on one covered line keep their working values
-  pub adjusted : {working : List ℤ} {marks : List ℕ} (z : ℤ) (r : Run) → length working ≡ n * n → Search working marks (r .rows) (r .columns)
+  abbrev pub adjusted : {working : List ℤ} {marks : List ℕ} (z : ℤ) (r : Run) → length working ≡ n * n → Search working marks (r .rows) (r .columns)
       → Search (followed n ok z r working) marks (r .rows) (r .columns)
   adjusted {working} z r size s = record {
     star = s .star;
