@@ -8,3 +8,6 @@ pub mod Leasts
 pub mod Sumsℤ
 pub mod Squares
 pub mod Sets
+pub mod Bits
+pub mod Words
+pub mod Loops

@@ -2,25 +2,22 @@
 -- Each is over any number and any line, so that one word and several joined words share them.
 use mathlib.Core.Path.{_≡_, refl, sym, ap, ap₂, _∙_}
 use mathlib.Core.Logic.{_≢_, dite}
-use mathlib.Core.Bool.{Bool, true, false, not, cond, _&&_, _||_}
+use mathlib.Core.Bool.{Bool, true, false, not, _&&_, _||_}
 use Prim.Native.Nat.{ℕ, zero, suc, _+_, _-_, _*_, _/_, _%_, _^_, _≤_, _<_}
-use native.Mathlib.Nat.{pow-suc, div-one, mod-eq-of-lt, mod-lt, one-mul}
+use native.Mathlib.Nat.{pow-suc, div-one, mod-lt}
 use native.Mathlib.Decide.{ℕ-discrete}
 use native.Mathlib.Omega.{arith}
 use borrow.Author.Tests.{eqb-true, eqb-false, eq-eqb, ne-eqb, ltb-true, ltb-false}
-use lib.Dec.{T, eqb, ltb}
+use lib.Dec.{eqb, ltb}
 use lib.Arith.{lt-one, mod-mul}
-use lib.Bits.{bitAnd, bitOr, or-step, and-step, or-zero-r, and-self, and-mask}
-use lib.Count.{ones, ones-step, ones-ones, trailingZeros, under}
-use lib.Pow.{shr-shr, pow-pos, pow-lt, pow-mono, ones-lt, high, ones-split}
+use lib.Count.{ones, ones-step, ones-ones}
+use lib.Pow.{shr-shr, pow-pos, ones-lt}
 use Rattle.lines.specs.Sum.{sum}
 use Rattle.lines.specs.Count.{bit, count}
-use Rattle.lines.specs.First.{first}
 use Rattle.lines.specs.Sets.{has, with, without, all, rest, those}
-use Rattle.lines.proofs.Tests.{T-true, T-false, by-cases, clash}
+use Rattle.lines.proofs.Tests.{by-cases, clash}
 use Rattle.lines.proofs.Puts.{put, put-at, put-off}
 use Rattle.lines.proofs.Counts.{count-ext}
-use Rattle.lines.proofs.Firsts.{First, first-one, first-is}
 
 -- ---- one digit, and the digits above the lowest
 
@@ -228,7 +225,7 @@ unfolding bit
 ones-without s i h = omega (arith, op-ones without-makes s i, ap bit h)
 
 -- counted from the lowest line
-sum-front : (f : ℕ → ℕ) (n : ℕ) → sum f (suc n) ≡ f 0 + sum (λ i. f (suc i)) n
+pub sum-front : (f : ℕ → ℕ) (n : ℕ) → sum f (suc n) ≡ f 0 + sum (λ i. f (suc i)) n
 unfolding sum
 sum-front f zero = omega arith
 sum-front f (suc n) = omega (arith, sum-front f n)

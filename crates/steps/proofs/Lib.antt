@@ -13,3 +13,8 @@ pub mod Settles
 pub mod Limits
 pub mod Start
 pub mod Pace
+pub mod Counted
+pub mod Budget
+pub mod Verdicts
+pub mod Starts
+pub mod Answers

@@ -13,7 +13,7 @@ use Rattle.lines.specs.Sets.{has}
 use Rattle.lines.proofs.Tests.{T-or}
 use Rattle.lines.proofs.Counts.{count-le, count-none}
 use Rattle.lines.proofs.Sets.{has-empty}
-use Rattle.steps.specs.Steps.{Next, Step3, Step4, Step5, Step6, Paired, NoPairing, Unfinished, Run, Machine, machine, star-count, covering, reaching, step5, adjusting, followed, step-at, step}
+use Rattle.steps.specs.Steps.{Next, Step3, Step4, Step5, Step6, Paired, NoPairing, Unfinished, Run, Machine, machine, star-count, covering, reaching, step5, augmenting, adjusting, followed, step-at, step}
 use Rattle.steps.proofs.Turns.{Open, OpenZero, NoZero, Lowest, step3-ind, step4-ind, step6-ind}
 use Rattle.steps.proofs.Marks.{find-count}
 use Rattle.steps.proofs.Phase.{covers, room}
@@ -94,7 +94,7 @@ module _ (n : ℕ) (ok : ℕ → ℕ → Bool) (s₀ : ℕ) (f g : ℕ → ℕ) 
 
   module _ (more-f : (s : ℕ) → s₀ ≤ s → s < n → f s + s ≤ f (suc s)) (more-g : (s : ℕ) → s₀ ≤ s → s < n → g s + suc s ≤ g (suc s)) (budget : ℕ) where
     pub paced-step : (m : Machine) → Shape n m → Sound n ok m → Paced m → Paced (step n ok budget m)
-    unfolding step step-at step5 covering reaching adjusting
+    unfolding step step-at step5 augmenting covering reaching adjusting
     paced-step m shape sound paced = go (m .run .next) (sound .at-next) (paced .at-next)
       where
         few : {i j : ℕ} → Ready n ok (m .working) (m .marks) (m .run .rows) (m .run .columns) i j → star-count n (m .marks) < n

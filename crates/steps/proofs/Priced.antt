@@ -1,22 +1,20 @@
 -- The prices: at every allowed cell the cost is row price and column price and working value, and no working value is negative. Every step keeps that.
-use mathlib.Core.Path.{_≡_, refl, sym, ap, _∙_}
+use mathlib.Core.Path.{_≡_, _∙_}
 use mathlib.Core.Bool.{Bool, true, false, not, cond}
-use mathlib.Core.List.{List}
-use Prim.Native.Nat.{ℕ, _+_, _*_, _<_}
+use Prim.Native.Nat.{ℕ, _<_}
 use native.Mathlib.Omega.{arith}
 use lib.Dec.{T}
 use lib.IntN.{ℤ, pos, _+ℤ_, _-ℤ_}
 use lib.Signed.{_≤ℤ_}
-use lib.ListN.{length, getD}
-use Rattle.lines.specs.First.{least}
+use lib.ListN.{getD}
 use Rattle.lines.specs.Square.{cell}
 use Rattle.lines.specs.Sets.{has}
 use Rattle.lines.proofs.Tests.{T-true, T-false}
 use Rattle.lines.proofs.Leasts.{least-is}
 use Rattle.lines.proofs.Signed.{signed, plus-parts, minus-parts}
 use Rattle.lines.proofs.Squares.{table-at, square-at}
-use Rattle.steps.specs.Steps.{Next, Step3, Step4, Step5, Step6, Paired, NoPairing, Unfinished, Run, Machine, machine, row-price, excess, start, follow, lowered, raised, followed, step6, step-at, step}
-use Rattle.steps.proofs.Turns.{Open, Lowest, step6-ind}
+use Rattle.steps.specs.Steps.{Next, Step3, Step4, Step5, Step6, Paired, NoPairing, Unfinished, Run, Machine, machine, row-price, excess, start, follow, lowered, raised, followed, step-at, step}
+use Rattle.steps.proofs.Turns.{Lowest, step6-ind}
 use Rattle.steps.proofs.Shape.{Shape}
 use Rattle.steps.proofs.Adjusted.{followed-at, lowered-at, raised-at, forbidden-stays}
 
@@ -103,19 +101,19 @@ module _ (n : ℕ) (ok : ℕ → ℕ → Bool) (cost : ℕ → ℕ → ℤ) wher
         positive : pos 0 ≤ℤ z
         positive = rw (l .value) at (p .whole (l .row) (l .column) (l .row-below) (l .column-below) (l .is-open .allowed))
 
-    pub priced-step : (budget : ℕ) → Priced n ok cost (step n ok budget m)
-    unfolding step step-at
-    priced-step budget = go (m .run .next)
-      where
-        go : (x : Next) → Priced n ok cost (step-at n ok budget x m)
-        go Step3 = record { equation = p .equation; whole = p .whole; none = p .none }
-        go Step4 = record { equation = p .equation; whole = p .whole; none = p .none }
-        go (Step5 i j) = record { equation = p .equation; whole = p .whole; none = p .none }
-        go Step6 =
-            step6-ind n ok budget (m .run) (m .working) (m .row-prices) (m .column-prices) (λ o. Priced n ok cost (machine (o .0) (o .1) (m .marks) (o .2) (o .3)))
-            (λ none. record { equation = p .equation; whole = p .whole; none = p .none })
-            (λ z l e. record { equation = p .equation; whole = p .whole; none = p .none })
-            (λ z l e. priced-adjust _ z l)
-        go Paired = p
-        go NoPairing = p
-        go Unfinished = p
+  pub priced-step : (budget : ℕ) (m : Machine) → Shape n m → Priced n ok cost m → Priced n ok cost (step n ok budget m)
+  unfolding step step-at
+  priced-step budget m s p = go (m .run .next)
+    where
+      go : (x : Next) → Priced n ok cost (step-at n ok budget x m)
+      go Step3 = record { equation = p .equation; whole = p .whole; none = p .none }
+      go Step4 = record { equation = p .equation; whole = p .whole; none = p .none }
+      go (Step5 i j) = record { equation = p .equation; whole = p .whole; none = p .none }
+      go Step6 =
+          step6-ind n ok budget (m .run) (m .working) (m .row-prices) (m .column-prices) (λ o. Priced n ok cost (machine (o .0) (o .1) (m .marks) (o .2) (o .3)))
+          (λ none. record { equation = p .equation; whole = p .whole; none = p .none })
+          (λ z l e. record { equation = p .equation; whole = p .whole; none = p .none })
+          (λ z l e. priced-adjust m s p _ z l)
+      go Paired = p
+      go NoPairing = p
+      go Unfinished = p

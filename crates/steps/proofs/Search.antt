@@ -15,7 +15,7 @@ use Rattle.lines.proofs.Puts.{put, put-at}
 use Rattle.lines.proofs.Counts.{count-ext, count-le, bit-ge}
 use Rattle.lines.proofs.Firsts.{ltb-min}
 use Rattle.lines.proofs.Sets.{has-empty, has-those, with-put, without-put}
-use Rattle.steps.specs.Steps.{Next, Step3, Step4, Step5, Step6, Paired, NoPairing, Unfinished, Run, Machine, machine, star-in-row, star-in-column, star-columns, star-count, to, step3, covering, reaching, step4, path, flip, clear-primes, step5, adjusting, followed, step6, step-at, step}
+use Rattle.steps.specs.Steps.{Next, Step3, Step4, Step5, Step6, Paired, NoPairing, Unfinished, Run, Machine, machine, star-in-row, star-in-column, star-columns, star-count, to, step3, covering, reaching, step4, path, flip, clear-primes, step5, augmenting, adjusting, followed, step6, step-at, step}
 use Rattle.steps.proofs.Turns.{Open, OpenZero, NoZero, NoOpen, Lowest, step3-ind, step4-ind, step6-ind}
 use Rattle.steps.proofs.Matching.{Matching, has-star}
 use Rattle.steps.proofs.Flip as F
@@ -219,7 +219,7 @@ module _ (n : ℕ) (ok : ℕ → ℕ → Bool) where
 
   module _ (budget : ℕ) where
     pub sound-step : (m : Machine) → Shape n m → Sound m → Sound (step n ok budget m)
-    unfolding step step-at step5 covering reaching adjusting
+    unfolding step step-at step5 augmenting covering reaching adjusting
     sound-step m shape sound = go (m .run .next) (sound .at-next)
       where
         go : (x : Next) → Sound-at x m → Sound (step-at n ok budget x m)

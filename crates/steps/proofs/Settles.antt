@@ -15,7 +15,7 @@ use Rattle.lines.specs.Count.{count}
 use Rattle.lines.specs.Sets.{has, with}
 use Rattle.lines.proofs.Tests.{T-true}
 use Rattle.lines.proofs.Counts.{count-le}
-use Rattle.steps.specs.Steps.{Next, Step3, Step4, Step5, Step6, Paired, NoPairing, Unfinished, Run, Machine, machine, star-in-row, star-count, covering, reaching, path, flip, clear-primes, step5, zero-column, adjusting, followed, step-at, step, steps}
+use Rattle.steps.specs.Steps.{Next, Step3, Step4, Step5, Step6, Paired, NoPairing, Unfinished, Run, Machine, machine, star-in-row, star-count, covering, reaching, path, flip, clear-primes, step5, augmenting, zero-column, adjusting, followed, step-at, step, steps}
 use Rattle.steps.proofs.Turns.{OpenZero, NoZero, zero-found, zero-none, crossed, step3-ind, step4-ind, step6-ind}
 use Rattle.steps.proofs.Runs.{over, ends, clash}
 use Rattle.steps.proofs.Shape.{Shape, shape-step}
@@ -71,7 +71,7 @@ module _ (n : ℕ) (ok : ℕ → ℕ → Bool) where
 
   module _ (budget : ℕ) where
     pub falls : (m : Machine) → Shape n m → Sound n ok m → over (m .run .next) ≡ false → left (step n ok budget m) < left m
-    unfolding step step-at left left-at turn step5 covering reaching adjusting
+    unfolding step step-at left left-at turn step5 augmenting covering reaching adjusting
     falls m shape sound o = go (m .run .next) (sound .at-next) o
       where
         go : (x : Next) → Sound-at n ok x m → over x ≡ false → left (step-at n ok budget x m) < left-at x m

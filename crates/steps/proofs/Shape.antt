@@ -1,13 +1,13 @@
 -- Every list of a machine keeps its length.
-use mathlib.Core.Path.{_≡_, refl, sym, ap, _∙_}
-use mathlib.Core.Bool.{Bool, cond}
+use mathlib.Core.Path.{_≡_, refl, _∙_}
+use mathlib.Core.Bool.{Bool}
 use mathlib.Core.List.{List, [], _∷_}
 use Prim.Native.Nat.{ℕ, zero, suc, _+_, _*_}
 use lib.Dec.{ltb}
 use lib.IntN.{ℤ}
 use lib.ListN.{length, set, length-set}
 use Rattle.lines.proofs.Squares.{length-table, length-square, length-each}
-use Rattle.steps.specs.Steps.{Next, Step3, Step4, Step5, Step6, Paired, NoPairing, Unfinished, Run, Machine, machine, free-zero, star-row, step2, start, step4, clear-primes, path, flip, step5, lowered, raised, followed, step6, step-at, step}
+use Rattle.steps.specs.Steps.{Next, Step3, Step4, Step5, Step6, Paired, NoPairing, Unfinished, Run, Machine, machine, free-zero, star-row, step2, start, step4, clear-primes, path, flip, step5, augmenting, lowered, raised, followed, step-at, step}
 use Rattle.steps.proofs.Turns.{cond-ind, step4-ind, step6-ind}
 
 pub record Shape (n : ℕ) (m : Machine) : Type 0 where
@@ -23,7 +23,7 @@ module _ (n : ℕ) where
   length-flip marks (p ∷ ps) = length-flip _ ps ∙ length-set marks _ _
 
   pub length-step5 : (i j : ℕ) (r : Run) (marks : List ℕ) → length (step5 n i j r marks .1) ≡ length marks
-  unfolding step5 clear-primes
+  unfolding step5 augmenting clear-primes
   length-step5 i j r marks = length-each _ _ ∙ length-flip marks (path n marks n i j)
 
   module _ (ok : ℕ → ℕ → Bool) where
@@ -57,8 +57,10 @@ module _ (n : ℕ) where
       where
         go : (x : Next) → Shape n (step-at n ok budget x m)
         go Step3 = record { working = s .working; marks = s .marks; row-prices = s .row-prices; column-prices = s .column-prices }
-        go Step4 = record { working = s .working; marks = length-step4 (m .working) (m .run) (m .marks) ∙ s .marks; row-prices = s .row-prices; column-prices = s .column-prices }
-        go (Step5 i j) = record { working = s .working; marks = length-step5 i j (m .run) (m .marks) ∙ s .marks; row-prices = s .row-prices; column-prices = s .column-prices }
+        go Step4 =
+            record { working = s .working; marks = length-step4 (m .working) (m .run) (m .marks) ∙ s .marks; row-prices = s .row-prices; column-prices = s .column-prices }
+        go (Step5 i j) =
+            record { working = s .working; marks = length-step5 i j (m .run) (m .marks) ∙ s .marks; row-prices = s .row-prices; column-prices = s .column-prices }
         go Step6 =
             step6-ind n ok budget (m .run) (m .working) (m .row-prices) (m .column-prices) (λ o. Shape n (machine (o .0) (o .1) (m .marks) (o .2) (o .3)))
             (λ none. record { working = s .working; marks = s .marks; row-prices = s .row-prices; column-prices = s .column-prices })

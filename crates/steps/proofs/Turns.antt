@@ -16,7 +16,7 @@ use Rattle.lines.proofs.Tests.{both, and-left, and-right, T-yes, eqb-yes}
 use Rattle.lines.proofs.Firsts.{first-is}
 use Rattle.lines.proofs.Leasts.{least-is}
 use Rattle.lines.proofs.Squares.{place-lt, place-of, place-in, place-back}
-use Rattle.steps.specs.Steps.{Next, Paired, Step4, Step5, Step6, NoPairing, Unfinished, Run, to, is-zero, star-in-row, star-columns, star-count, zero-at, step3, uncovered, covering, reaching, zero-in-column, zero-column, step4, adjusting, lowest, followed, lowered, raised, step6}
+use Rattle.steps.specs.Steps.{Next, Step3, Step4, Step5, Step6, Paired, NoPairing, Unfinished, Run, Machine, to, is-zero, star-in-row, star-columns, star-count, zero-at, step3, uncovered, covering, reaching, zero-in-column, zero-column, step4, adjusting, lowest, followed, lowered, raised, step6, step5, augmenting, step-at, step}
 
 -- what holds of both, with what the test says, holds of the choice
 pub cond-ind {ℓ} : {A : Type 0} (P : A → Type ℓ) (b : Bool) (x y : A) → (T b → P x) → (T (not b) → P y) → P (cond b x y)
@@ -188,3 +188,33 @@ module _ (n : ℕ) (ok : ℕ → ℕ → Bool) where
         (adjusting r, followed n ok z r working, lowered z r row-prices, raised z r column-prices)
         (λ u. spent z l (eqb→eq _ budget u))
         (λ u. adjusts z l (λ e. T-not (eqb (r .adjustments) budget) u (eqb-yes _ budget e))))
+
+-- ---- what a step does to the run
+
+module _ (n : ℕ) (ok : ℕ → ℕ → Bool) (budget : ℕ) (m : Machine) where
+  -- P x r: the step x leads to the run r
+  pub step-ind : (P : Next → Run → Type 0)
+      → ((x : Next) → P Step3 (crossed n ok (m .marks) (m .run) x))
+      → ((i s : ℕ) → P Step4 (covering i s (m .run)))
+      → ((i j : ℕ) → P Step4 (reaching i j (m .run)))
+      → P Step4 (to Step6 (m .run))
+      → ((i j : ℕ) → P (Step5 i j) (augmenting (m .run)))
+      → P Step6 (to NoPairing (m .run))
+      → (m .run .adjustments ≡ budget → P Step6 (to Unfinished (m .run)))
+      → (m .run .adjustments ≢ budget → P Step6 (adjusting (m .run)))
+      → P Paired (m .run)
+      → P NoPairing (m .run)
+      → P Unfinished (m .run)
+      → P (m .run .next) (step n ok budget m .run)
+  unfolding step step-at step5
+  step-ind P crosses covers reaches none augments blocks spends adjusts paired blocked spent = go (m .run .next)
+    where
+      go : (x : Next) → P x (step-at n ok budget x m .run)
+      go Step3 = step3-ind n ok (m .marks) (m .run) (P Step3) (λ full. crosses Paired) (λ part. crosses Step4)
+      go Step4 = step4-ind n ok (m .working) (m .run) (m .marks) (λ o. P Step4 (o .0)) (λ i j z h. covers i _) (λ i j z h. reaches i j) (λ z. none)
+      go (Step5 i j) = augments i j
+      go Step6 =
+          step6-ind n ok budget (m .run) (m .working) (m .row-prices) (m .column-prices) (λ o. P Step6 (o .0)) (λ z. blocks) (λ z l e. spends e) (λ z l e. adjusts e)
+      go Paired = paired
+      go NoPairing = blocked
+      go Unfinished = spent

@@ -1,6 +1,6 @@
 pub mod Lent
 pub mod Refusal
 pub mod Steps
+pub mod Counts
 pub mod Outcome
-
 pub mod Samples

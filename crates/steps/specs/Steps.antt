@@ -162,6 +162,9 @@ module _ (n : ℕ) (ok : ℕ → ℕ → Bool) where
 unfoldable pub clear-primes : List ℕ → List ℕ
 clear-primes marks = each (λ q m. cond (eqb m 2) 0 m) marks
 
+unfoldable pub augmenting : Run → Run
+augmenting r = record { rows = 0; columns = 0; adjustments = r .adjustments; primes = r .primes; augmentations = r .augmentations + 1; next = Step3 }
+
 module _ (n : ℕ) where
   -- From the prime at (i, j) to the star in its column, to the prime in that star's row, and so on. No row is met twice, so n of them are enough.
   unfoldable pub path : List ℕ → ℕ → ℕ → ℕ → List (ℕ × ℕ)
@@ -176,10 +179,7 @@ module _ (n : ℕ) where
   flip marks (p ∷ ps) = flip (set marks (p .0 * n + p .1) (cond (eqb (cell 0 n marks (p .0) (p .1)) 1) 0 1)) ps
 
   unfoldable pub step5 : ℕ → ℕ → Run → List ℕ → Run × List ℕ
-  step5 i j r marks = (
-    record { rows = 0; columns = 0; adjustments = r .adjustments; primes = r .primes; augmentations = r .augmentations + 1; next = Step3 },
-    clear-primes (flip marks (path marks n i j)),
-  )
+  step5 i j r marks = (augmenting r, clear-primes (flip marks (path marks n i j)))
 
 -- ---- step 6: by the least allowed uncovered working value, covered rows become cheaper and uncovered columns dearer
 

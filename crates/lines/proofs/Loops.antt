@@ -1,0 +1,108 @@
+-- What a loop over the indices 0, 1, .. keeps from turn to turn, at the code's `i + 1`, and what it has at the end.
+-- A search keeps that no index so far passes, by `below-none` and `below-more` of `borrow.Author.Count`, and ends by `first-at` or `first-none`.
+use mathlib.Core.Path.{_≡_, refl, sym, ap, _∙_}
+use mathlib.Core.Bool.{Bool, true, false}
+use mathlib.Core.List.{List}
+use Prim.Native.Nat.{ℕ, _+_, _≤_, _<_}
+use native.Mathlib.Numerals.{add-one}
+use native.Mathlib.Omega.{arith}
+use borrow.Author.Count.{below-none, below-more}
+use borrow.Author.Tests.{lt-ltb, le-ltb}
+use lib.IntN.{ℤ, _+ℤ_}
+use lib.ListN.{length, getD, set, length-set}
+use lib.Seq.{getD-set-same, getD-set-other, ext-getD}
+use lib.Signed.{ltZ}
+use Rattle.lines.specs.Sum.{sum, sumℤ}
+use Rattle.lines.specs.Count.{bit, count}
+use Rattle.lines.specs.First.{least-on, least}
+use Rattle.lines.specs.Square.{table, each}
+use Rattle.lines.specs.Sets.{with, those}
+use Rattle.lines.proofs.Tests.{by-cases}
+use Rattle.lines.proofs.Squares.{length-table, table-at, length-each, each-at}
+use Rattle.lines.proofs.Sets.{those-yes, those-no}
+
+-- ---- a list rewritten from the front, one element a turn
+
+-- after i turns: the elements below i are done, those from i on are as they were
+pub record Passed {A : Type 0} (d : A) (f : ℕ → A → A) (xs₀ xs : List A) (i : ℕ) : Type 0 where
+  pub long : length xs ≡ length xs₀
+  pub done : (k : ℕ) → k < i → getD xs k d ≡ f k (getD xs₀ k d)
+  pub left : (k : ℕ) → i ≤ k → getD xs k d ≡ getD xs₀ k d
+
+module _ {A : Type 0} (d : A) (f : ℕ → A → A) (xs₀ : List A) where
+  pub passed-none : Passed d f xs₀ xs₀ 0
+  passed-none = record { long = refl; done = below-none _; left = λ k h. refl }
+
+  -- the turn stores, or the element is right as it stands
+  pub passed-store : (xs : List A) (i : ℕ) (v : A) → i < length xs → v ≡ f i (getD xs₀ i d) → Passed d f xs₀ xs i → Passed d f xs₀ (set xs i v) (i + 1)
+  passed-store xs i v h e p = record {
+    long = length-set xs i v ∙ p .long;
+    done = below-more _ i (λ k l. getD-set-other xs i k v d (λ q. omega arith) ∙ p .done k l) (getD-set-same xs i v d h ∙ e);
+    left = λ k l. getD-set-other xs i k v d (λ q. omega arith) ∙ p .left k (omega arith);
+  }
+
+  pub passed-keep : (xs : List A) (i : ℕ) → getD xs i d ≡ f i (getD xs₀ i d) → Passed d f xs₀ xs i → Passed d f xs₀ xs (i + 1)
+  passed-keep xs i e p = record { long = p .long; done = below-more _ i (p .done) e; left = λ k l. p .left k (omega arith) }
+
+  pub passed-all : (xs : List A) (i : ℕ) → length xs ≤ i → Passed d f xs₀ xs i → xs ≡ each f xs₀
+  passed-all xs i h p =
+      ext-getD d xs (each f xs₀) (p .long ∙ sym (length-each f xs₀)) (λ k l. let q = p .long in p .done k (omega arith) ∙ sym (each-at d f xs₀ k (omega arith)))
+
+-- the same where what stood there does not matter: the list is filled
+pub filled-all : {A : Type 0} (d : A) (f : ℕ → A) (xs₀ xs : List A) (n i : ℕ) → length xs ≡ n → n ≤ i → Passed d (λ k x. f k) xs₀ xs i → xs ≡ table f n
+filled-all d f xs₀ xs n i e h p =
+    ext-getD d xs (table f n) (e ∙ sym (length-table f n)) (λ k l. p .done k (omega arith) ∙ sym (table-at d f n k (omega arith)))
+
+-- ---- the first with the least value
+
+module _ (b : ℕ → Bool) (f : ℕ → ℤ) (i : ℕ) where
+  least-more : least b f (i + 1) ≡ least-on (b i) f i (least b f i)
+  unfolding least
+  least-more = ap (least b f) (add-one i)
+
+  -- none so far, and i does not pass, or passes
+  pub least-none : i ≤ least b f i → b i ≡ false → least b f (i + 1) ≡ i + 1
+  unfolding least-on
+  least-none h e = least-more ∙ rw (le-ltb (least b f i) i h, e) (sym (add-one i))
+
+  pub least-begin : i ≤ least b f i → b i ≡ true → least b f (i + 1) ≡ i
+  unfolding least-on
+  least-begin h e = least-more ∙ rw (le-ltb (least b f i) i h, e)
+
+  -- one so far: i does not pass, or is less, or is not
+  pub least-skip : least b f i < i → b i ≡ false → least b f (i + 1) ≡ least b f i
+  unfolding least-on
+  least-skip h e = least-more ∙ rw (lt-ltb (least b f i) i h, e)
+
+  pub least-take : least b f i < i → b i ≡ true → ltZ (f i) (f (least b f i)) ≡ true → least b f (i + 1) ≡ i
+  unfolding least-on
+  least-take h e l = least-more ∙ rw (lt-ltb (least b f i) i h, e, l)
+
+  pub least-keep : least b f i < i → ltZ (f i) (f (least b f i)) ≡ false → least b f (i + 1) ≡ least b f i
+  unfolding least-on
+  least-keep h l = by-cases (b i) (λ e. least-more ∙ rw (lt-ltb (least b f i) i h, e, l)) (least-skip h)
+
+-- ---- sums, counts and sets
+
+pub sum-more : (f : ℕ → ℕ) (i : ℕ) → sum f (i + 1) ≡ sum f i + f i
+unfolding sum
+sum-more f i = ap (sum f) (add-one i)
+
+pub sumℤ-more : (f : ℕ → ℤ) (i : ℕ) → sumℤ f (i + 1) ≡ sumℤ f i +ℤ f i
+unfolding sumℤ
+sumℤ-more f i = ap (sumℤ f) (add-one i)
+
+module _ (b : ℕ → Bool) (i : ℕ) where
+  pub count-yes : b i ≡ true → count b (i + 1) ≡ count b i + 1
+  unfolding count bit
+  count-yes e = sum-more (λ k. bit (b k)) i ∙ rw e
+
+  pub count-no : b i ≡ false → count b (i + 1) ≡ count b i
+  unfolding count bit
+  count-no e = sum-more (λ k. bit (b k)) i ∙ rw e (omega arith)
+
+  pub those-with : b i ≡ true → those b (i + 1) ≡ with (those b i) i
+  those-with e = ap (those b) (add-one i) ∙ those-yes b i e
+
+  pub those-skip : b i ≡ false → those b (i + 1) ≡ those b i
+  those-skip e = ap (those b) (add-one i) ∙ those-no b i e

@@ -1,0 +1,116 @@
+-- What an accepted call is, and what the verdict does not depend on: the buffers' contents, the budget, the costs of forbidden cells.
+use mathlib.Core.Path.{_≡_, refl, sym, ap}
+use mathlib.Core.Logic.{_≢_}
+use mathlib.Core.Bool.{Bool, true, false, not, cond, _&&_}
+use mathlib.Core.List.{List}
+use Prim.Native.Nat.{ℕ, _*_, _≤_, _<_}
+use native.Mathlib.Omega.{arith}
+use lib.Dec.{T, T-not, ltb, eqb, eqb→eq, nltb→le}
+use lib.IntN.{ℤ, pos}
+use lib.ListN.{length, getD}
+use Rattle.lines.specs.First.{any}
+use Rattle.lines.proofs.Tests.{T-yes, and-left, eqb-yes}
+use Rattle.lines.proofs.Firsts.{any-no, first-ext}
+use Rattle.steps.specs.Lent.{Task, Buffers, allowed}
+use Rattle.steps.specs.Refusal.{Verdict, refused, dead, accepted, out-of-range, lengths, bad-mask, bad-cost, dead-row, verdict}
+
+-- ---- accepted
+
+-- a call that is neither refused nor answered at once
+pub record Accepted (limit : ℕ) (t : Task) (b : Buffers) : Type 0 where
+  pub some : 0 < t .n
+  pub most : t .n ≤ limit
+  pub sizes : T (lengths t b)
+  pub masks : (q : ℕ) → q < t .n * t .n → T (not (bad-mask t q))
+  pub costs : (q : ℕ) → q < t .n * t .n → T (not (bad-cost t q))
+  pub rows : (i : ℕ) → i < t .n → T (any (allowed t i) (t .n))
+
+refused-not : (number place : ℕ) → refused number place ≢ accepted
+refused-not number place e = let z : _≡_ {A = ℕ} 0 1 = cc in omega arith
+
+dead-not : (row : ℕ) → dead row ≢ accepted
+dead-not row e = let z : _≡_ {A = ℕ} 0 1 = cc in omega arith
+
+-- a test that was passed over
+past : (c : Bool) (v w : Verdict) → v ≢ accepted → cond c v w ≡ accepted → T (not c) × (w ≡ accepted)
+past true v w ne e = absurd (ne e)
+past false v w ne e = (tt, e)
+
+module _ (limit : ℕ) (t : Task) (b : Buffers) where
+  pub accepted-is : verdict t limit b ≡ accepted → Accepted limit t b
+  unfolding verdict dead-row
+  accepted-is e0 =
+      let cells = t .n * t .n in
+      let e1 = past (eqb (t .n) 0) _ _ (refused-not 1 0) e0 in
+      let e2 = past (ltb limit (t .n)) _ _ (refused-not 2 0) (e1 .1) in
+      let e3 = past (not (lengths t b)) _ _ (refused-not 3 0) (e2 .1) in
+      let e4 = past (any (bad-mask t) cells) _ _ (refused-not 4 _) (e3 .1) in
+      let e5 = past (any (bad-cost t) cells) _ _ (refused-not 5 _) (e4 .1) in
+      let e6 = past (any (dead-row t) (t .n)) _ _ (dead-not _) (e5 .1) in
+      record {
+        some = positive (λ z. T-not (eqb (t .n) 0) (e1 .0) (eqb-yes (t .n) 0 z));
+        most = nltb→le limit (t .n) (e2 .0);
+        sizes = T-yes (lengths t b) (λ u. T-not (not (lengths t b)) (e3 .0) u);
+        masks = any-no (bad-mask t) cells (e4 .0);
+        costs = any-no (bad-cost t) cells (e5 .0);
+        rows = λ i h. T-yes (any (allowed t i) (t .n)) (λ u. T-not (dead-row t i) (any-no (dead-row t) (t .n) (e6 .0) i h) u);
+      }
+    where
+      positive : t .n ≢ 0 → 0 < t .n
+      positive ne = omega arith
+
+  pub costs-length : T (lengths t b) → length (t .costs) ≡ t .n * t .n
+  unfolding lengths
+  costs-length h =
+      let cells = t .n * t .n in
+      let x1 = eqb (length (t .costs)) cells in
+      let x2 = x1 && eqb (length (t .mask)) cells in
+      let x3 = x2 && eqb (length (b .working)) cells in
+      let x4 = x3 && eqb (length (b .marks)) cells in
+      let x5 = x4 && eqb (length (b .columns)) (t .n) in
+      let x6 = x5 && eqb (length (b .row-prices)) (t .n) in
+      eqb→eq _ _ (and-left x1 _ (and-left x2 _ (and-left x3 _ (and-left x4 _ (and-left x5 _ (and-left x6 _ h))))))
+
+-- ---- the same verdict: other contents
+
+pub record SameLengths (b b′ : Buffers) : Type 0 where
+  pub working : length (b .working) ≡ length (b′ .working)
+  pub marks : length (b .marks) ≡ length (b′ .marks)
+  pub columns : length (b .columns) ≡ length (b′ .columns)
+  pub row-prices : length (b .row-prices) ≡ length (b′ .row-prices)
+  pub column-prices : length (b .column-prices) ≡ length (b′ .column-prices)
+
+pub verdict-contents : (limit : ℕ) (t : Task) (b b′ : Buffers) → SameLengths b b′ → verdict t limit b ≡ verdict t limit b′
+unfolding verdict lengths
+verdict-contents limit t b b′ s = rw (s .working, s .marks, s .columns, s .row-prices, s .column-prices)
+
+-- ---- another budget
+
+abbrev pub with-budget : Task → ℕ → Task
+with-budget t b = record { n = t .n; costs = t .costs; mask = t .mask; budget = b }
+
+pub verdict-budget : (limit : ℕ) (t : Task) (b : Buffers) (budget : ℕ) → verdict (with-budget t budget) limit b ≡ verdict t limit b
+unfolding verdict lengths bad-mask bad-cost dead-row allowed
+verdict-budget limit t b budget = refl
+
+-- ---- other costs in forbidden cells
+
+abbrev pub with-costs : Task → List ℤ → Task
+with-costs t costs = record { n = t .n; costs = costs; mask = t .mask; budget = t .budget }
+
+-- as many costs, and the same wherever the cell is allowed
+pub record SameAllowed (t : Task) (costs′ : List ℤ) : Type 0 where
+  pub size : length (t .costs) ≡ length costs′
+  pub value : (q : ℕ) → q < t .n * t .n → T (eqb (getD (t .mask) q 1) 1) → getD (t .costs) q (pos 0) ≡ getD costs′ q (pos 0)
+
+guarded : (c x y : Bool) → (T c → x ≡ y) → (c && x) ≡ (c && y)
+guarded true x y h = h tt
+guarded false x y h = refl
+
+bad-cost-same : (t : Task) (costs′ : List ℤ) → SameAllowed t costs′ → (q : ℕ) → q < t .n * t .n → bad-cost (with-costs t costs′) q ≡ bad-cost t q
+unfolding bad-cost
+bad-cost-same t costs′ s q h = guarded (eqb (getD (t .mask) q 1) 1) _ _ (λ u. ap out-of-range (sym (s .value q h u)))
+
+pub verdict-costs : (limit : ℕ) (t : Task) (b : Buffers) (costs′ : List ℤ) → SameAllowed t costs′ → verdict (with-costs t costs′) limit b ≡ verdict t limit b
+unfolding verdict lengths bad-mask dead-row allowed any
+verdict-costs limit t b costs′ s = rw (first-ext (bad-cost (with-costs t costs′)) (bad-cost t) (t .n * t .n) (bad-cost-same t costs′ s), ← s .size)
