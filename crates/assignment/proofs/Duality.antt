@@ -11,17 +11,14 @@ use Rattle.lines.specs.Sum.{sumℤ}
 use Rattle.lines.proofs.Signed.{signed, plus-parts}
 use Rattle.lines.proofs.Sumsℤ.{sumℤ-ext, sumℤ-add, sumℤ-zeros, sumℤ-whole, le-sumℤ}
 use Rattle.assignment.specs.Problem.{AllowedPairing, NoneBelow, column, total}
+use Rattle.assignment.specs.Prices.{PriceList}
 use Rattle.assignment.proofs.Permuted.{permutedℤ}
 
--- row and column prices and working values that make up the cost of each allowed cell
-pub record Priced (n : ℕ) (ok : ℕ → ℕ → Bool) (cost : ℕ → ℕ → ℤ) (row col : ℕ → ℤ) (w : ℕ → ℕ → ℤ) : Type 0 where
-  pub split : (i j : ℕ) → i < n → j < n → T (ok i j) → cost i j ≡ row i +ℤ col j +ℤ w i j
-
-module _ {n : ℕ} {ok : ℕ → ℕ → Bool} {cost : ℕ → ℕ → ℤ} {row col : ℕ → ℤ} {w : ℕ → ℕ → ℤ} (priced : Priced n ok cost row col w) where
+module _ {n : ℕ} {ok : ℕ → ℕ → Bool} {cost : ℕ → ℕ → ℤ} {row col : ℕ → ℤ} {w : ℕ → ℕ → ℤ} (list : PriceList n ok cost row col w) where
   pub weighed : (p : List ℕ) → AllowedPairing n n ok p → total cost n p ≡ sumℤ row n +ℤ sumℤ col n +ℤ sumℤ (λ i. w i (column p i)) n
   unfolding total
   weighed p q =
-      sumℤ-ext _ _ n (λ i h. priced .split i (column p i) h (q .pairing .below i h) (q .allowed i h))
+      sumℤ-ext _ _ n (λ i h. list .equation i (column p i) h (q .pairing .below i h) (q .allowed i h))
       ∙ sumℤ-add (λ i. row i +ℤ col (column p i)) (λ i. w i (column p i)) n
       ∙ ap (λ s. s +ℤ sumℤ (λ i. w i (column p i)) n) (sumℤ-add row (λ i. col (column p i)) n ∙ ap (λ s. sumℤ row n +ℤ s) (permutedℤ n p col (q .pairing)))
 
@@ -32,27 +29,26 @@ module _ {n : ℕ} {ok : ℕ → ℕ → Bool} {cost : ℕ → ℕ → ℤ} {row
       let s = sumℤ-zeros (λ i. w i (column p i)) n z in
       omega (signed, plus-parts (sumℤ row n +ℤ sumℤ col n) (sumℤ (λ i. w i (column p i)) n))
 
-  module _ (whole : (i j : ℕ) → i < n → j < n → T (ok i j) → pos 0 ≤ℤ w i j) where
-    -- the working values of an allowed pairing are never negative
-    along : (p : List ℕ) → AllowedPairing n n ok p → (i : ℕ) → i < n → pos 0 ≤ℤ w i (column p i)
-    along p q i h = whole i (column p i) h (q .pairing .below i h) (q .allowed i h)
+  -- the working values of an allowed pairing are never negative
+  along : (p : List ℕ) → AllowedPairing n n ok p → (i : ℕ) → i < n → pos 0 ≤ℤ w i (column p i)
+  along p q i h = list .whole i (column p i) h (q .pairing .below i h) (q .allowed i h)
 
-    pub at-least : NoneBelow n n ok cost (sumℤ row n +ℤ sumℤ col n)
-    at-least p q =
-        let e = weighed p q in
-        let s = sumℤ-whole (λ i. w i (column p i)) n (along p q) in
-        omega (signed, plus-parts (sumℤ row n +ℤ sumℤ col n) (sumℤ (λ i. w i (column p i)) n))
+  pub at-least : NoneBelow n n ok cost (sumℤ row n +ℤ sumℤ col n)
+  at-least p q =
+      let e = weighed p q in
+      let s = sumℤ-whole (λ i. w i (column p i)) n (along p q) in
+      omega (signed, plus-parts (sumℤ row n +ℤ sumℤ col n) (sumℤ (λ i. w i (column p i)) n))
 
-    pub on-zeros-least : (p : List ℕ) → AllowedPairing n n ok p → ((i : ℕ) → i < n → w i (column p i) ≡ pos 0) → NoneBelow n n ok cost (total cost n p)
-    on-zeros-least p q z = rw (on-zeros-adds-up p q z) at-least
+  pub on-zeros-least : (p : List ℕ) → AllowedPairing n n ok p → ((i : ℕ) → i < n → w i (column p i) ≡ pos 0) → NoneBelow n n ok cost (total cost n p)
+  on-zeros-least p q z = rw (on-zeros-adds-up p q z) at-least
 
-    -- where one pairing uses only cells of working value 0, every least one does
-    pub slackness : (p q : List ℕ) → AllowedPairing n n ok p → ((i : ℕ) → i < n → w i (column p i) ≡ pos 0)
-        → AllowedPairing n n ok q → NoneBelow n n ok cost (total cost n q) → (i : ℕ) → i < n → w i (column q i) ≡ pos 0
-    slackness p q hp z hq least i h =
-        let a = on-zeros-adds-up p hp z in
-        let e = weighed q hq in
-        let l = least p hp in
-        let s = le-sumℤ (λ i. w i (column q i)) n i (along q hq) h in
-        let t = along q hq i h in
-        omega (signed, plus-parts (sumℤ row n +ℤ sumℤ col n) (sumℤ (λ i. w i (column q i)) n))
+  -- where one pairing uses only cells of working value 0, every least one does
+  pub slackness : (p q : List ℕ) → AllowedPairing n n ok p → ((i : ℕ) → i < n → w i (column p i) ≡ pos 0)
+      → AllowedPairing n n ok q → NoneBelow n n ok cost (total cost n q) → (i : ℕ) → i < n → w i (column q i) ≡ pos 0
+  slackness p q hp z hq least i h =
+      let a = on-zeros-adds-up p hp z in
+      let e = weighed q hq in
+      let l = least p hp in
+      let s = le-sumℤ (λ i. w i (column q i)) n i (along q hq) h in
+      let t = along q hq i h in
+      omega (signed, plus-parts (sumℤ row n +ℤ sumℤ col n) (sumℤ (λ i. w i (column q i)) n))

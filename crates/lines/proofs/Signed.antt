@@ -151,3 +151,17 @@ parts-sfits w (negsuc n) h = record { sfits = omega arith }
 
 -- `omega`'s list: the facts of integers in scope are read as facts of parts, and a goal of integers is turned into one
 pub ruleset signed = (arith, le-parts, ltZ-parts, nltZ-parts, eq-parts, parts-le, parts-eq, parts-ltZ, parts-nltZ, parts-sfits)
+
+-- ---- bounds
+
+-- z is at most L away from 0
+pub record Within (L : ℕ) (z : ℤ) : Type 0 where
+  pub above : negℤ (pos L) ≤ℤ z
+  pub below : z ≤ℤ pos L
+
+pub within-zero : (L : ℕ) → Within L (pos 0)
+within-zero L = record { above = omega (signed, neg-parts (pos L)); below = omega signed }
+
+-- what is within a small bound fits its width
+pub within-fits : {L : ℕ} {z : ℤ} (w : Width) → Within L z → L < 2 ^ hbits w → SFits w z
+within-fits {L} {z} w b h = omega (signed, b .above, b .below, neg-parts (pos L))

@@ -27,12 +27,14 @@ module _ (prime : ℕ → ℕ) where
   rowed row [] = row
   rowed row (r ∷ rs) = rowed (put row (prime r) r) rs
 
--- what the on-path leaves: the stars of a matching, one more of them if r had none, each at a place where a star or a prime was, and no column without its star
+-- what the on-path leaves: the stars of a matching, one more of them if r had none, each at a place where a star or a prime was, and no column and no row
+-- without its star
 pub record Flipped (n : ℕ) (Q : ℕ → ℕ → Type 0) (star row : ℕ → ℕ) (r : ℕ) (star′ row′ : ℕ → ℕ) : Type 0 where
   pub matching : Matching n star′ row′
   pub more : count (has-star n star′) n + bit (has-star n star r) ≡ count (has-star n star) n + 1
   pub holds : (i : ℕ) → i < n → star′ i < n → Q i (star′ i)
   pub stays : (j : ℕ) → row j < n → row′ j < n
+  pub keeps : (i : ℕ) → star i < n → star′ i < n
 
 -- Each prime has the time at which it was made, and the star in its column is in a row that was primed earlier.
 module _ (n : ℕ) (prime time row₀ : ℕ → ℕ)
@@ -98,6 +100,9 @@ module _ (n : ℕ) (prime time row₀ : ℕ → ℕ)
         stay : (j : ℕ) → row j < n → row′ j < n
         stay j h = put-case (λ x. x < n) row (prime r) r j (λ e. w .below) (λ ne. h)
 
+        keep : (i : ℕ) → star i < n → star′ i < n
+        keep i h = put-case (λ x. x < n) star r (prime r) i (λ e. w .primed) (λ ne. h)
+
         go : (x : Bool) → ltb (row₀ (prime r)) n ≡ x → (row₀ (prime r) < n → Flipped n Q star′ row′ (row₀ (prime r)) (starred prime star′ rs) (rowed prime row′ rs))
             → Flipped n Q star row r (starred prime star′ (cond x rs [])) (rowed prime row′ (cond x rs []))
         go true e rec =
@@ -114,12 +119,14 @@ module _ (n : ℕ) (prime time row₀ : ℕ → ℕ)
                   );
               holds = d .holds;
               stays = λ j h. d .stays j (stay j h);
+              keeps = λ i h. d .keeps i (keep i h);
             }
         go false e rec = record {
           matching = walk-end w (nltb→le _ _ (rw e tt));
           more = count-moved n star r (prime r) w.below w.primed;
           holds = q′;
           stays = stay;
+          keeps = keep;
         }
 
     -- The stars and the on-path of step 5: row r has no star, and its prime was the last to be made.

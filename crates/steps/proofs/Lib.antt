@@ -18,3 +18,5 @@ pub mod Budget
 pub mod Verdicts
 pub mod Starts
 pub mod Answers
+pub mod Fresh
+pub mod Limited

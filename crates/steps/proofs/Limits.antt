@@ -3,26 +3,19 @@
 use mathlib.Core.Path.{_≡_, ap}
 use mathlib.Core.Bool.{Bool, true, false, not, cond}
 use mathlib.Core.Logic.{dite}
-use Prim.Native.Nat.{ℕ, suc, _+_, _*_, _^_, _≤_, _<_, max}
+use Prim.Native.Nat.{ℕ, suc, _+_, _*_, _≤_, _<_, max}
 use native.Mathlib.Nat.{mul-le-mul-left}
 use native.Mathlib.Omega.{arith}
 use native.Mathlib.Decide.{decLt}
 use lib.Dec.{T, T-not, ltb}
 use lib.IntN.{ℤ, pos, negℤ, _+ℤ_, _-ℤ_}
 use lib.Signed.{_≤ℤ_}
-use mir.Syntax.{Width}
-use mir.Val.{SFits, hbits}
 use Rattle.lines.specs.Count.{count}
 use Rattle.lines.proofs.Tests.{T-true, T-false}
 use Rattle.lines.proofs.Puts.{put, put-case}
 use Rattle.lines.proofs.Counts.{count-ext, count-put, count-le, bit-yes, bit-no}
-use Rattle.lines.proofs.Signed.{P, signed, plus-parts, minus-parts, neg-parts, whole}
+use Rattle.lines.proofs.Signed.{P, signed, plus-parts, minus-parts, neg-parts, whole, Within}
 use Rattle.steps.proofs.Turns.{cond-ind}
-
--- z is at most L away from 0
-pub record Within (L : ℕ) (z : ℤ) : Type 0 where
-  pub above : negℤ (pos L) ≤ℤ z
-  pub below : z ≤ℤ pos L
 
 -- a cell of working value 0: row price and column price add up to its cost
 pub tight : {C : ℕ} {k w : ℤ} (x y : ℤ) → Within C k → k ≡ x +ℤ y +ℤ w → w ≡ pos 0 → Within C (x +ℤ y)
@@ -30,10 +23,6 @@ tight {C} {k} {w} x y b e z = record {
   above = omega (signed, b .above, plus-parts (x +ℤ y) w);
   below = omega (signed, b .below, plus-parts (x +ℤ y) w);
 }
-
--- what is within a small bound fits its width
-pub within-fits : {L : ℕ} {z : ℤ} (w : Width) → Within L z → L < 2 ^ hbits w → SFits w z
-within-fits {L} {z} w b h = omega (signed, b .above, b .below, neg-parts (pos L))
 
 -- how many rows below n have a star, by the columns of the stars
 abbrev pub stars : ℕ → (ℕ → ℕ) → ℕ

@@ -98,7 +98,7 @@ module _ (n : ℕ) (ok : ℕ → ℕ → Bool) where
       abbrev pub marked : List ℕ
       marked = set marks (i * n + j) 2
 
-      shown : Shows n s.star (put s.prime i j) marked
+      pub shown : Shows n s.star (put s.prime i j) marked
       shown =
           show-primed n s.star s.prime marks i j (z .row-below) (z .column-below)
           (new s.phase i j (z .row-below) (z .column-below) (z .is-open .row) (z .is-open .column) (z .is-open .allowed, z .zero))

@@ -3,4 +3,5 @@ pub mod Refusal
 pub mod Steps
 pub mod Counts
 pub mod Outcome
+pub mod Promise
 pub mod Samples
