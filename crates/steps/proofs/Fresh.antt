@@ -38,7 +38,7 @@ module _ (n : ℕ) (ok : ℕ → ℕ → Bool) (cost : ℕ → ℕ → ℤ) wher
     pub priced : Priced n ok cost m
     pub paced : Paced n ok first-stars adjusts-before primes-before m
 
-  fresh-step : (budget : ℕ) (m : Machine) → Fresh m → Fresh (step n ok budget m)
+  pub fresh-step : (budget : ℕ) (m : Machine) → Fresh m → Fresh (step n ok budget m)
   unfolding sum
   fresh-step budget m f = record {
     shape = shape-step n ok budget m (f .shape);
@@ -62,7 +62,7 @@ module _ (n : ℕ) (ok : ℕ → ℕ → Bool) (cost : ℕ → ℕ → ℤ) wher
     unfolding start
     some-star = let z = seen 0 some in one-star n ok _ some (z .0) (z .1) (z .2)
 
-    fresh-start : Fresh (start n ok cost)
+    pub fresh-start : Fresh (start n ok cost)
     unfolding start
     fresh-start = record {
       shape = shape-start n ok cost;

@@ -20,3 +20,6 @@ pub mod Starts
 pub mod Answers
 pub mod Fresh
 pub mod Limited
+pub mod Ends
+pub mod Promised
+pub mod Theorems

@@ -25,38 +25,9 @@ use Rattle.steps.proofs.Search.{Zero, Search, Ready, Sound, Sound-at, b
 abbrev pub Seen : (n : ℕ) → (ℕ → ℕ → Bool) → List ℤ → Type 0
 Seen n ok working = (i : ℕ) → i < n → (j : ℕ) × (j < n) × Zero n ok working i j
 
--- A run that began with s₀ stars. With s stars a phase begins after at most f s adjustments and fewer than g s primes, and f and g grow as one phase does.
-module _ (n : ℕ) (ok : ℕ → ℕ → Bool) (s₀ : ℕ) (f g : ℕ → ℕ) where
-  -- s stars, a adjustments and p primes in this phase at most
-  pub record Pace (working : List ℤ) (r : Run) (s a p : ℕ) : Type 0 where
-    pub since : s₀ ≤ s
-    pub adjustments : r .adjustments ≤ f s + a
-    pub primes : r .primes + 1 ≤ g s + p
-    pub augmentations : r .augmentations + s₀ ≡ s
-    pub seen : Seen n ok working
+-- ---- facts of a phase
 
-  -- at step 4, with k covered rows: d is 1 from an adjustment to the next prime
-  pub record Due (working : List ℤ) (r : Run) (s k : ℕ) : Type 0 where
-    pub d : ℕ
-    pub flag : d ≤ 1
-    pub zero : d ≡ 1 → (i : ℕ) × (j : ℕ) × OpenZero n ok working (r .rows) (r .columns) i j
-    pub room : k + d ≤ s
-    pub pace : Pace working r s (k + d) k
-
-  abbrev pub Paced-at : Next → Machine → Type 0
-  Paced-at Step3 m = Pace (m .working) (m .run) (star-count n (m .marks)) 0 0
-  Paced-at Step4 m = Due (m .working) (m .run) (star-count n (m .marks)) (count (has (m .run .rows)) n)
-  Paced-at (Step5 i j) m = Pace (m .working) (m .run) (star-count n (m .marks)) (star-count n (m .marks)) (suc (star-count n (m .marks)))
-  Paced-at Step6 m = Pace (m .working) (m .run) (star-count n (m .marks)) (count (has (m .run .rows)) n) (count (has (m .run .rows)) n)
-  Paced-at Paired m = Pace (m .working) (m .run) (star-count n (m .marks)) 0 0
-  Paced-at NoPairing m = Pace (m .working) (m .run) (star-count n (m .marks)) (count (has (m .run .rows)) n) (count (has (m .run .rows)) n)
-  Paced-at Unfinished m = Pace (m .working) (m .run) (star-count n (m .marks)) (count (has (m .run .rows)) n) (count (has (m .run .rows)) n)
-
-  pub record Paced (m : Machine) : Type 0 where
-    pub at-next : Paced-at (m .run .next) m
-
-  -- ---- facts of a phase
-
+module _ (n : ℕ) (ok : ℕ → ℕ → Bool) where
   module _ {working : List ℤ} {marks : List ℕ} {rows columns : ℕ} (s : Search n ok working marks rows columns) where
     -- no more rows are covered than have stars
     pub few-rows : count (has rows) n ≤ star-count n marks
@@ -90,6 +61,38 @@ module _ (n : ℕ) (ok : ℕ → ℕ → Bool) (s₀ : ℕ) (f g : ℕ → ℕ) 
       ))
       (T-or (has (r .rows) i))
 
+-- ---- the invariant
+
+-- A run that began with s₀ stars. With s stars a phase begins after at most f s adjustments and fewer than g s primes, and f and g grow as one phase does.
+module _ (n : ℕ) (ok : ℕ → ℕ → Bool) (s₀ : ℕ) (f g : ℕ → ℕ) where
+  -- s stars, a adjustments and p primes in this phase at most
+  pub record Pace (working : List ℤ) (r : Run) (s a p : ℕ) : Type 0 where
+    pub since : s₀ ≤ s
+    pub adjustments : r .adjustments ≤ f s + a
+    pub primes : r .primes + 1 ≤ g s + p
+    pub augmentations : r .augmentations + s₀ ≡ s
+    pub seen : Seen n ok working
+
+  -- at step 4, with k covered rows: d is 1 from an adjustment to the next prime
+  pub record Due (working : List ℤ) (r : Run) (s k : ℕ) : Type 0 where
+    pub d : ℕ
+    pub flag : d ≤ 1
+    pub zero : d ≡ 1 → (i : ℕ) × (j : ℕ) × OpenZero n ok working (r .rows) (r .columns) i j
+    pub room : k + d ≤ s
+    pub pace : Pace working r s (k + d) k
+
+  abbrev pub Paced-at : Next → Machine → Type 0
+  Paced-at Step3 m = Pace (m .working) (m .run) (star-count n (m .marks)) 0 0
+  Paced-at Step4 m = Due (m .working) (m .run) (star-count n (m .marks)) (count (has (m .run .rows)) n)
+  Paced-at (Step5 i j) m = Pace (m .working) (m .run) (star-count n (m .marks)) (star-count n (m .marks)) (suc (star-count n (m .marks)))
+  Paced-at Step6 m = Pace (m .working) (m .run) (star-count n (m .marks)) (count (has (m .run .rows)) n) (count (has (m .run .rows)) n)
+  Paced-at Paired m = Pace (m .working) (m .run) (star-count n (m .marks)) 0 0
+  Paced-at NoPairing m = Pace (m .working) (m .run) (star-count n (m .marks)) (count (has (m .run .rows)) n) (count (has (m .run .rows)) n)
+  Paced-at Unfinished m = Pace (m .working) (m .run) (star-count n (m .marks)) (count (has (m .run .rows)) n) (count (has (m .run .rows)) n)
+
+  pub record Paced (m : Machine) : Type 0 where
+    pub at-next : Paced-at (m .run .next) m
+
   -- ---- every step
 
   module _ (more-f : (s : ℕ) → s₀ ≤ s → s < n → f s + s ≤ f (suc s)) (more-g : (s : ℕ) → s₀ ≤ s → s < n → g s + suc s ≤ g (suc s)) (budget : ℕ) where
@@ -109,7 +112,7 @@ module _ (n : ℕ) (ok : ℕ → ℕ → Bool) (s₀ : ℕ) (f g : ℕ → ℕ) 
                 d = 0;
                 flag = omega arith;
                 zero = λ e. absurd (omega arith);
-                room = let q : count (has (m .run .rows)) n ≤ star-count n (m .marks) = few-rows (begun n ok (h .0) (h .1) refl part) in omega arith;
+                room = let q : count (has (m .run .rows)) n ≤ star-count n (m .marks) = few-rows n ok (begun n ok (h .0) (h .1) refl part) in omega arith;
                 pace = record { since = p .since; adjustments = omega (arith, p .adjustments); primes = omega (arith, p .primes); augmentations = p .augmentations; seen = p .seen };
               };
             })
@@ -120,7 +123,7 @@ module _ (n : ℕ) (ok : ℕ → ℕ → Bool) (s₀ : ℕ) (f g : ℕ → ℕ) 
                 d = 0;
                 flag = omega arith;
                 zero = λ e. absurd (omega arith);
-                room = omega (arith, few-rows (covered n ok s i j z h), one-row-more n ok s i j z, same-stars n ok s i j z);
+                room = omega (arith, few-rows n ok (covered n ok s i j z h), one-row-more n ok s i j z, same-stars n ok s i j z);
                 pace = record { since = p .pace .since; adjustments = omega (arith, p .pace .adjustments, p .flag); primes = omega (arith, p .pace .primes); augmentations = p .pace .augmentations; seen = p .pace .seen };
               });
             })
@@ -141,14 +144,14 @@ module _ (n : ℕ) (ok : ℕ → ℕ → Bool) (s₀ : ℕ) (f g : ℕ → ℕ) 
               at-next = record {
                 d = 1;
                 flag = omega arith;
-                room = omega (arith, room-left (h .0) (h .1) (p .seen));
+                room = omega (arith, room-left n ok (h .0) (h .1) (p .seen));
                 zero = λ q. (l .row, l .column, record { row-below = l .row-below; column-below = l .column-below; is-open = l .is-open; zero = lowest-zero n ok z (m .run) (m .working) (shape .working) l });
                 pace = record {
                   since = p .since;
                   adjustments = omega (arith, p .adjustments);
                   primes = p .primes;
                   augmentations = p .augmentations;
-                  seen = still-seen z (m .run) (shape .working) (h .0) (h .1) (p .seen);
+                  seen = still-seen n ok z (m .run) (shape .working) (h .0) (h .1) (p .seen);
                 };
               };
             })

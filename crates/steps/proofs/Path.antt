@@ -22,7 +22,7 @@ module _ {n : ℕ} {star₀ prime : ℕ → ℕ} {marks₀ : List ℕ} (shown : 
   found-row r hp = find-row shown row₀ matching (prime r) hp
 
   -- a row's star is no prime
-  star-off : (o : ℕ) → o < n → prime o < n → star₀ o ≢ prime o
+  pub star-off : (o : ℕ) → o < n → prime o < n → star₀ o ≢ prime o
   star-off o ho hp e =
       let b : row₀ (prime o) ≡ o = ap row₀ (sym e) ∙ matching .there o ho (omega arith) (omega arith) in
       omega (arith, chain o ho hp (rw b ho) .1, ap time b)

@@ -5,59 +5,56 @@ use mathlib.Core.Bool.{Bool, true, false, not, cond, _&&_}
 use mathlib.Core.List.{List}
 use Prim.Native.Nat.{ℕ, _*_, _≤_, _<_}
 use native.Mathlib.Omega.{arith}
-use lib.Dec.{T, T-not, ltb, eqb, eqb→eq, nltb→le}
+use lib.Dec.{T, T-not, ltb, ltb→lt, eqb, eqb→eq, nltb→le}
 use lib.IntN.{ℤ, pos}
 use lib.ListN.{length, getD}
 use Rattle.lines.specs.First.{any}
 use Rattle.lines.proofs.Tests.{T-yes, and-left, eqb-yes}
-use Rattle.lines.proofs.Firsts.{any-no, first-ext}
+use Rattle.lines.proofs.Firsts.{first-is, any-is, any-no, first-ext}
 use Rattle.steps.specs.Lent.{Task, Buffers, allowed}
 use Rattle.steps.specs.Refusal.{Verdict, refused, dead, accepted, out-of-range, lengths, bad-mask, bad-cost, dead-row, verdict}
+use Rattle.steps.specs.Promise.{Fit}
+use Rattle.steps.proofs.Turns.{cond-ind}
 
--- ---- accepted
+-- ---- what a verdict tells
 
 -- a call that is neither refused nor answered at once
 pub record Accepted (limit : ℕ) (t : Task) (b : Buffers) : Type 0 where
-  pub some : 0 < t .n
-  pub most : t .n ≤ limit
-  pub sizes : T (lengths t b)
-  pub masks : (q : ℕ) → q < t .n * t .n → T (not (bad-mask t q))
-  pub costs : (q : ℕ) → q < t .n * t .n → T (not (bad-cost t q))
+  pub fit : Fit limit t b
   pub rows : (i : ℕ) → i < t .n → T (any (allowed t i) (t .n))
 
-refused-not : (number place : ℕ) → refused number place ≢ accepted
-refused-not number place e = let z : _≡_ {A = ℕ} 0 1 = cc in omega arith
-
-dead-not : (row : ℕ) → dead row ≢ accepted
-dead-not row e = let z : _≡_ {A = ℕ} 0 1 = cc in omega arith
-
--- a test that was passed over
-past : (c : Bool) (v w : Verdict) → v ≢ accepted → cond c v w ≡ accepted → T (not c) × (w ≡ accepted)
-past true v w ne e = absurd (ne e)
-past false v w ne e = (tt, e)
-
 module _ (limit : ℕ) (t : Task) (b : Buffers) where
-  pub accepted-is : verdict t limit b ≡ accepted → Accepted limit t b
-  unfolding verdict dead-row
-  accepted-is e0 =
+  abbrev pub Tells : Verdict → Type 0
+  Tells (refused number place) = (0 < number) × (number < 6) × (Fit limit t b → ⊥)
+  Tells (dead row) = (row < t .n) × T (not (any (allowed t row) (t .n)))
+  Tells accepted = Accepted limit t b
+
+  pub verdict-tells : Tells (verdict t limit b)
+  unfolding verdict dead-row any
+  verdict-tells =
       let cells = t .n * t .n in
-      let e1 = past (eqb (t .n) 0) _ _ (refused-not 1 0) e0 in
-      let e2 = past (ltb limit (t .n)) _ _ (refused-not 2 0) (e1 .1) in
-      let e3 = past (not (lengths t b)) _ _ (refused-not 3 0) (e2 .1) in
-      let e4 = past (any (bad-mask t) cells) _ _ (refused-not 4 _) (e3 .1) in
-      let e5 = past (any (bad-cost t) cells) _ _ (refused-not 5 _) (e4 .1) in
-      let e6 = past (any (dead-row t) (t .n)) _ _ (dead-not _) (e5 .1) in
+      cond-ind Tells (eqb (t .n) 0) _ _ (λ t1. (omega arith, omega arith, λ f. omega (arith, eqb→eq (t .n) 0 t1, f .some))) (λ t1.
+      cond-ind Tells (ltb limit (t .n)) _ _ (λ t2. (omega arith, omega arith, λ f. omega (arith, ltb→lt limit (t .n) t2, f .most))) (λ t2.
+      cond-ind Tells (not (lengths t b)) _ _ (λ t3. (omega arith, omega arith, λ f. T-not (lengths t b) t3 (f .sizes))) (λ t3.
+      cond-ind Tells (any (bad-mask t) cells) _ _ (λ t4. (omega arith, omega arith, λ f. let x = any-is (bad-mask t) cells t4 in T-not (bad-mask t (x .0)) (f .masks (x .0) (x .1)) (x .2))) (λ t4.
+      cond-ind Tells (any (bad-cost t) cells) _ _ (λ t5. (omega arith, omega arith, λ f. let x = any-is (bad-cost t) cells t5 in T-not (bad-cost t (x .0)) (f .costs (x .0) (x .1)) (x .2))) (λ t5.
+      cond-ind Tells (any (dead-row t) (t .n)) _ _ (λ t6. let h = ltb→lt _ (t .n) t6 in (h, first-is (dead-row t) (t .n) .hit h)) (λ t6.
       record {
-        some = positive (λ z. T-not (eqb (t .n) 0) (e1 .0) (eqb-yes (t .n) 0 z));
-        most = nltb→le limit (t .n) (e2 .0);
-        sizes = T-yes (lengths t b) (λ u. T-not (not (lengths t b)) (e3 .0) u);
-        masks = any-no (bad-mask t) cells (e4 .0);
-        costs = any-no (bad-cost t) cells (e5 .0);
-        rows = λ i h. T-yes (any (allowed t i) (t .n)) (λ u. T-not (dead-row t i) (any-no (dead-row t) (t .n) (e6 .0) i h) u);
-      }
+        fit = record {
+          some = positive (λ z. T-not (eqb (t .n) 0) t1 (eqb-yes (t .n) 0 z));
+          most = nltb→le limit (t .n) t2;
+          sizes = T-yes (lengths t b) (λ u. T-not (not (lengths t b)) t3 u);
+          masks = any-no (bad-mask t) cells t4;
+          costs = any-no (bad-cost t) cells t5;
+        };
+        rows = λ i h. T-yes (any (allowed t i) (t .n)) (λ u. T-not (dead-row t i) (any-no (dead-row t) (t .n) t6 i h) u);
+      }))))))
     where
       positive : t .n ≢ 0 → 0 < t .n
       positive ne = omega arith
+
+  pub accepted-is : verdict t limit b ≡ accepted → Accepted limit t b
+  accepted-is e = rw e at verdict-tells
 
   pub costs-length : T (lengths t b) → length (t .costs) ≡ t .n * t .n
   unfolding lengths
