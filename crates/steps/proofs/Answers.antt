@@ -93,7 +93,7 @@ module _ (t : Task) (before before′ : Buffers) (a a′ : Answer) (after after�
     column-prices = untouched refl refl;
   }
 
-  others-same : (m : Machine) → EachSameOrUntouched before before′ (written t before m (before .columns)) (written t before′ m (before′ .columns))
+  others-same : (m : Machine) → EachSameOrUntouched before before′ (written m (before .columns)) (written m (before′ .columns))
   unfolding written
   others-same m = record { working = same refl; marks = same refl; columns = untouched refl refl; row-prices = same refl; column-prices = same refl }
 
@@ -162,7 +162,7 @@ module _ (t : Task) (before : Buffers) (costs′ : List ℤ) (s : SameAllowed t 
       (λ h. List·getD-eq-default (t .costs) (pos 0) (omega arith) ∙ sym (List·getD-eq-default costs′ (pos 0) (omega (arith, s .size))))
 
   total-same : (m : Machine) → length (t .costs) ≡ t .n * t .n → ((i : ℕ) → i < t .n → T (allowed t i (star-in-row (t .n) (m .marks) i)))
-      → total (cost (with-costs t costs′)) (t .n) (chosen t before m) ≡ total (cost t) (t .n) (chosen t before m)
+      → total (cost (with-costs t costs′)) (t .n) (chosen (t .n) m) ≡ total (cost t) (t .n) (chosen (t .n) m)
   unfolding total chosen
   total-same m size h =
       sumℤ-ext _ _ (t .n) (λ i l. rw (table-at 0 (star-in-row (t .n) (m .marks)) (t .n) i l) (sym (cost-same size i (star-in-row (t .n) (m .marks) i) (h i l))))
@@ -175,7 +175,7 @@ module _ (t : Task) (before : Buffers) (costs′ : List ℤ) (s : SameAllowed t 
   given-costs m (Step5 i j) size h = refl
   given-costs m Step6 size h = refl
   given-costs m Paired size h =
-      ap {B = Option (Answer × Buffers)} (λ z. some (answer 0 0 z (m .run) 0 0, written t before m (chosen t before m))) (total-same m size (h refl))
+      ap {B = Option (Answer × Buffers)} (λ z. some (answer 0 0 z (m .run) 0 0, written m (chosen (t .n) m))) (total-same m size (h refl))
   given-costs m NoPairing size h = refl
   given-costs m Unfinished size h = refl
 

@@ -131,7 +131,7 @@ module _ (limit : ℕ) (t : Task) (before : Buffers) (k : ℕ) where
     paced-at : (x : Next) → m .run .next ≡ x → Paced-at n (allowed t) (first-stars n (allowed t) (cost t)) adjusts-before primes-before x m
     paced-at x e = subst (λ x. Paced-at n (allowed t) (first-stars n (allowed t) (cost t)) adjusts-before primes-before x m) e (going .paced .at-next)
 
-    paired-keeps : m .run .next ≡ Paired → Promise limit t before (answer 0 0 (total (cost t) n (chosen t before m)) (m .run) 0 0) (written t before m (chosen t before m))
+    paired-keeps : m .run .next ≡ Paired → Promise limit t before (answer 0 0 (total (cost t) n (chosen (t .n) m)) (m .run) 0 0) (written m (chosen (t .n) m))
     unfolding given written chosen
     paired-keeps e =
         let s = sound-at Paired e in
@@ -150,7 +150,7 @@ module _ (limit : ℕ) (t : Task) (before : Buffers) (k : ℕ) where
           adds-up = λ z. paired-adds-up n (allowed t) (going .priced) (s .0) (s .1);
         }
 
-    blocked-keeps : m .run .next ≡ NoPairing → Promise limit t before (answer 6 0 (pos 0) (m .run) (rest n (m .run .rows)) (rest n (m .run .columns))) (written t before m (before .columns))
+    blocked-keeps : m .run .next ≡ NoPairing → Promise limit t before (answer 6 0 (pos 0) (m .run) (rest n (m .run .rows)) (rest n (m .run .columns))) (written m (before .columns))
     unfolding given written
     blocked-keeps e =
         let s = sound-at NoPairing e in
@@ -171,7 +171,7 @@ module _ (limit : ℕ) (t : Task) (before : Buffers) (k : ℕ) where
           adds-up = λ z. absurd (omega arith);
         }
 
-    unfinished-keeps : m .run .next ≡ Unfinished → Promise limit t before (answer 7 0 (pos 0) (m .run) 0 0) (written t before m (before .columns))
+    unfinished-keeps : m .run .next ≡ Unfinished → Promise limit t before (answer 7 0 (pos 0) (m .run) 0 0) (written m (before .columns))
     unfolding given written
     unfinished-keeps e =
         let s = sound-at Unfinished e in

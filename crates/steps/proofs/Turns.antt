@@ -16,7 +16,7 @@ use Rattle.lines.proofs.Tests.{both, and-left, and-right, T-yes, eqb-yes}
 use Rattle.lines.proofs.Firsts.{first-is}
 use Rattle.lines.proofs.Leasts.{least-is}
 use Rattle.lines.proofs.Squares.{place-lt, place-of, place-in, place-back}
-use Rattle.steps.specs.Steps.{Next, Step3, Step4, Step5, Step6, Paired, NoPairing, Unfinished, Run, Machine, to, is-zero, star-in-row, star-columns, star-count, zero-at, step3, uncovered, covering, reaching, zero-in-column, zero-column, step4, adjusting, lowest, followed, lowered, raised, step6, step5, augmenting, step-at, step}
+use Rattle.steps.specs.Steps.{Next, Step3, Step4, Step5, Step6, Paired, NoPairing, Unfinished, Run, run-with, Machine, to, is-zero, star-in-row, star-columns, star-count, zero-at, step3, uncovered, covering, reaching, zero-in-column, zero-column, step4, adjusting, lowest, followed, lowered, raised, step6, step5, augmenting, step-at, step}
 
 -- what holds of both, with what the test says, holds of the choice
 pub cond-ind {ℓ} : {A : Type 0} (P : A → Type ℓ) (b : Bool) (x y : A) → (T b → P x) → (T (not b) → P y) → P (cond b x y)
@@ -143,8 +143,7 @@ module _ (n : ℕ) (ok : ℕ → ℕ → Bool) where
   module _ (marks : List ℕ) (r : Run) where
     -- the columns of the stars covered
     abbrev pub crossed : Next → Run
-    crossed x =
-        record { rows = r .rows; columns = star-columns n marks; adjustments = r .adjustments; primes = r .primes; augmentations = r .augmentations; next = x }
+    crossed x = run-with (r .rows) (star-columns n marks) (r .adjustments) (r .primes) (r .augmentations) x
 
     pub step3-ind : (P : Run → Type 0) → (star-count n marks ≡ n → P (crossed Paired)) → (star-count n marks ≢ n → P (crossed Step4)) → P (step3 n marks r)
     unfolding step3

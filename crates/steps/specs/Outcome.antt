@@ -10,7 +10,7 @@ use Rattle.assignment.specs.Problem.{total}
 use Rattle.steps.specs.declared.Answer.{Answer}
 use Rattle.steps.specs.Lent.{Task, Buffers, allowed, cost}
 use Rattle.steps.specs.Refusal.{Verdict, refused, dead, accepted, verdict}
-use Rattle.steps.specs.Steps.{Next, Step3, Step4, Step5, Step6, Paired, NoPairing, Unfinished, Run, Machine, star-in-row, start, steps}
+use Rattle.steps.specs.Steps.{Next, Step3, Step4, Step5, Step6, Paired, NoPairing, Unfinished, Run, run-with, Machine, star-in-row, start, steps}
 
 -- ---- the answer, with its number and values, for each case
 
@@ -27,20 +27,20 @@ answer number place sum r rows columns = record {
 }
 
 abbrev pub no-run : Run
-no-run = record { rows = 0; columns = 0; adjustments = 0; primes = 0; augmentations = 0; next = Step3 }
+no-run = run-with 0 0 0 0 0 Step3
+
+-- the star of each row
+unfoldable pub chosen : ℕ → Machine → List ℕ
+chosen n m = table (star-in-row n (m .marks)) n
+
+-- the buffers as the steps leave them, with these columns
+unfoldable pub written : Machine → List ℕ → Buffers
+written m columns = record { working = m .working; marks = m .marks; columns = columns; row-prices = m .row-prices; column-prices = m .column-prices }
 
 module _ (t : Task) (before : Buffers) where
-  -- the star of each row
-  unfoldable pub chosen : Machine → List ℕ
-  chosen m = table (star-in-row (t .n) (m .marks)) (t .n)
-
-  -- the buffers as the steps leave them, with these columns
-  unfoldable pub written : Machine → List ℕ → Buffers
-  written m columns = record { working = m .working; marks = m .marks; columns = columns; row-prices = m .row-prices; column-prices = m .column-prices }
-
   -- what is given back at an end; elsewhere nothing yet
   unfoldable pub given : Machine → Next → Option (Answer × Buffers)
-  given m Paired = some (answer 0 0 (total (cost t) (t .n) (chosen m)) (m .run) 0 0, written m (chosen m))
+  given m Paired = let columns = chosen (t .n) m in some (answer 0 0 (total (cost t) (t .n) columns) (m .run) 0 0, written m columns)
   given m NoPairing = some (answer 6 0 (pos 0) (m .run) (rest (t .n) (m .run .rows)) (rest (t .n) (m .run .columns)), written m (before .columns))
   given m Unfinished = some (answer 7 0 (pos 0) (m .run) 0 0, written m (before .columns))
   given m Step3 = none

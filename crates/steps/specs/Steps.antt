@@ -36,13 +36,17 @@ pub record Machine : Type 0 where
   pub row-prices : List ℤ
   pub column-prices : List ℤ
 
+abbrev pub run-with : ℕ → ℕ → ℕ → ℕ → ℕ → Next → Run
+run-with rows columns adjustments primes augmentations next =
+    record { rows = rows; columns = columns; adjustments = adjustments; primes = primes; augmentations = augmentations; next = next }
+
 abbrev pub machine : Run → List ℤ → List ℕ → List ℤ → List ℤ → Machine
 machine run working marks row-prices column-prices =
     record { run = run; working = working; marks = marks; row-prices = row-prices; column-prices = column-prices }
 
 -- the run with something else next
 abbrev pub to : Next → Run → Run
-to x r = record { rows = r .rows; columns = r .columns; adjustments = r .adjustments; primes = r .primes; augmentations = r .augmentations; next = x }
+to x r = run-with (r .rows) (r .columns) (r .adjustments) (r .primes) (r .augmentations) x
 
 unfoldable pub is-zero : ℤ → Bool
 is-zero (pos m) = eqb m 0
@@ -101,25 +105,13 @@ module _ (n : ℕ) (ok : ℕ → ℕ → Bool) where
   unfoldable pub start : (ℕ → ℕ → ℤ) → Machine
   start cost =
       let working = square (excess n ok cost) n in
-      machine
-      (record { rows = 0; columns = 0; adjustments = 0; primes = 0; augmentations = 0; next = Step3 })
-      working
-      (step2 working (square (λ i j. 0) n) n)
-      (table (row-price n ok cost) n)
-      (table (λ j. pos 0) n)
+      machine (run-with 0 0 0 0 0 Step3) working (step2 working (square (λ i j. 0) n) n) (table (row-price n ok cost) n) (table (λ j. pos 0) n)
 
 -- ---- step 3: the column of each star is covered; with n stars, finish
 
 module _ (n : ℕ) where
   unfoldable pub step3 : List ℕ → Run → Run
-  step3 marks r = record {
-    rows = r .rows;
-    columns = star-columns n marks;
-    adjustments = r .adjustments;
-    primes = r .primes;
-    augmentations = r .augmentations;
-    next = cond (eqb (star-count n marks) n) Paired Step4;
-  }
+  step3 marks r = run-with (r .rows) (star-columns n marks) (r .adjustments) (r .primes) (r .augmentations) (cond (eqb (star-count n marks) n) Paired Step4)
 
 -- ---- step 4: the first uncovered zero, column by column and downwards in each, is primed
 
@@ -128,19 +120,11 @@ uncovered r i j = not (has (r .rows) i) && not (has (r .columns) j)
 
 -- the row of the prime has a star, in column s: it is covered, and s uncovered
 unfoldable pub covering : ℕ → ℕ → Run → Run
-covering i s r = record {
-  rows = with (r .rows) i;
-  columns = without (r .columns) s;
-  adjustments = r .adjustments;
-  primes = r .primes + 1;
-  augmentations = r .augmentations;
-  next = Step4;
-}
+covering i s r = run-with (with (r .rows) i) (without (r .columns) s) (r .adjustments) (r .primes + 1) (r .augmentations) Step4
 
 -- it has none
 unfoldable pub reaching : ℕ → ℕ → Run → Run
-reaching i j r =
-    record { rows = r .rows; columns = r .columns; adjustments = r .adjustments; primes = r .primes + 1; augmentations = r .augmentations; next = Step5 i j }
+reaching i j r = run-with (r .rows) (r .columns) (r .adjustments) (r .primes + 1) (r .augmentations) (Step5 i j)
 
 module _ (n : ℕ) (ok : ℕ → ℕ → Bool) where
   unfoldable pub zero-in-column : List ℤ → Run → ℕ → ℕ
@@ -163,7 +147,7 @@ unfoldable pub clear-primes : List ℕ → List ℕ
 clear-primes marks = each (λ q m. cond (eqb m 2) 0 m) marks
 
 unfoldable pub augmenting : Run → Run
-augmenting r = record { rows = 0; columns = 0; adjustments = r .adjustments; primes = r .primes; augmentations = r .augmentations + 1; next = Step3 }
+augmenting r = run-with 0 0 (r .adjustments) (r .primes) (r .augmentations + 1) Step3
 
 module _ (n : ℕ) where
   -- From the prime at (i, j) to the star in its column, to the prime in that star's row, and so on. No row is met twice, so n of them are enough.
@@ -184,8 +168,7 @@ module _ (n : ℕ) where
 -- ---- step 6: by the least allowed uncovered working value, covered rows become cheaper and uncovered columns dearer
 
 unfoldable pub adjusting : Run → Run
-adjusting r =
-    record { rows = r .rows; columns = r .columns; adjustments = r .adjustments + 1; primes = r .primes; augmentations = r .augmentations; next = Step4 }
+adjusting r = run-with (r .rows) (r .columns) (r .adjustments + 1) (r .primes) (r .augmentations) Step4
 
 -- a working value follows the prices of its row and its column, each covered or not
 unfoldable pub follow : ℤ → Bool → Bool → ℤ → ℤ
