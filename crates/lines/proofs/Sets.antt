@@ -17,6 +17,7 @@ use Rattle.lines.specs.Count.{bit, count}
 use Rattle.lines.specs.Sets.{has, with, without, all, rest, those}
 use Rattle.lines.proofs.Tests.{by-cases, clash}
 use Rattle.lines.proofs.Puts.{put, put-at, put-off}
+use Rattle.lines.proofs.Sums.{sum-front}
 use Rattle.lines.proofs.Counts.{count-ext}
 
 -- ---- one digit, and the digits above the lowest
@@ -223,12 +224,6 @@ ones-with s i h = omega (arith, op-ones with-makes s i, ap bit h)
 pub ones-without : (s i : ℕ) → has s i ≡ true → suc (ones (without s i)) ≡ ones s
 unfolding bit
 ones-without s i h = omega (arith, op-ones without-makes s i, ap bit h)
-
--- counted from the lowest line
-pub sum-front : (f : ℕ → ℕ) (n : ℕ) → sum f (suc n) ≡ f 0 + sum (λ i. f (suc i)) n
-unfolding sum
-sum-front f zero = omega arith
-sum-front f (suc n) = omega (arith, sum-front f n)
 
 pub count-ones : (n s : ℕ) → s < 2 ^ n → count (has s) n ≡ ones s
 unfolding count sum

@@ -6,6 +6,7 @@ use mathlib.Core.Bool.{Bool, true, false, not, cond}
 use Prim.Native.Nat.{ℕ, zero, suc, _+_, _-_, _≤_, _<_, _^_}
 use native.Mathlib.Omega.{arith}
 use lib.Dec.{T, ltb, leb, ltb→lt, nltb→le, leb→le, le→leb, lt→ltb}
+use Rattle.lines.proofs.Tests.{cond-ind}
 use lib.IntN.{ℤ, pos, negsuc, negℤ, subℕ, natAbs, _+ℤ_, _-ℤ_}
 use lib.Signed.{_≤ℤ_, _<ℤ_, ltZ, leZ, mag}
 use borrow.Author.Tests.{ltb-true, ltb-false, leb-true, leb-false}
@@ -22,12 +23,8 @@ N (pos n) = 0
 N (negsuc n) = suc n
 
 -- ---- the difference of two naturals
-cond-ind : (c : Bool) (x y : ℤ) (Q : ℤ → Type 0) → (T c → Q x) → (T (not c) → Q y) → Q (cond c x y)
-cond-ind true x y Q f g = f tt
-cond-ind false x y Q f g = g tt
-
 pub sub-parts : (a b : ℕ) → P (subℕ a b) + b ≡ a + N (subℕ a b)
-sub-parts a b = cond-ind (ltb a b) (negsuc (b - suc a)) (pos (a - b)) (λ z. P z + b ≡ a + N z)
+sub-parts a b = cond-ind (λ z. P z + b ≡ a + N z) (ltb a b) (negsuc (b - suc a)) (pos (a - b))
     (λ t. low (ltb→lt a b t)) (λ t. high (nltb→le a b t))
   where
     low : a < b → 0 + b ≡ a + suc (b - suc a)
@@ -37,7 +34,7 @@ sub-parts a b = cond-ind (ltb a b) (negsuc (b - suc a)) (pos (a - b)) (λ z. P z
     high h = omega arith
 
 pub subℕ-pos : (a b : ℕ) → b ≤ a → subℕ a b ≡ pos (a - b)
-subℕ-pos a b h = cond-ind (ltb a b) (negsuc (b - suc a)) (pos (a - b)) (λ z. z ≡ pos (a - b))
+subℕ-pos a b h = cond-ind (λ z. z ≡ pos (a - b)) (ltb a b) (negsuc (b - suc a)) (pos (a - b))
     (λ t. absurd (no (ltb→lt a b t))) (λ t. refl)
   where
     no : a < b → ⊥

@@ -29,6 +29,12 @@ unfolding sum
 sum-const b zero = omega arith
 sum-const b (suc n) = omega (arith, sum-const b n)
 
+-- counted from the lowest line
+pub sum-front : (f : ℕ → ℕ) (n : ℕ) → sum f (suc n) ≡ f 0 + sum (λ i. f (suc i)) n
+unfolding sum
+sum-front f zero = omega arith
+sum-front f (suc n) = omega (arith, sum-front f n)
+
 -- more summands
 pub sum-longer : (f : ℕ → ℕ) (m n : ℕ) → m ≤ n → sum f m ≤ sum f n
 unfolding sum

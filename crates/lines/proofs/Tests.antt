@@ -1,7 +1,7 @@
 -- Tests and what they say: from a Bool to a fact, and back.
 use mathlib.Core.Path.{_≡_, refl}
 use mathlib.Core.Logic.{_≢_, _⊎_, inl, inr}
-use mathlib.Core.Bool.{Bool, true, false, not, _&&_, true≢false, false≢true}
+use mathlib.Core.Bool.{Bool, true, false, not, cond, _&&_, _||_, true≢false, false≢true}
 use Prim.Native.Nat.{ℕ}
 use lib.Dec.{T, not-T, eqb, eqb→eq, eqb-refl}
 
@@ -55,3 +55,25 @@ by-cases false f g = g refl
 pub clash {ℓ} : {P : Type ℓ} (b : Bool) → b ≡ true → b ≡ false → P
 clash true y n = absurd (true≢false n)
 clash false y n = absurd (false≢true y)
+
+-- neither of two tests
+pub nor : (x y : Bool) → (T (x || y) → ⊥) → (x ≡ false) × (y ≡ false)
+nor true y f = absurd (f tt)
+nor false true f = absurd (f tt)
+nor false false f = (refl, refl)
+
+-- ---- choices
+
+-- what holds of both, with what the test says, holds of the choice
+pub cond-ind {ℓ} : {A : Type 0} (P : A → Type ℓ) (b : Bool) (x y : A) → (T b → P x) → (T (not b) → P y) → P (cond b x y)
+cond-ind P true x y f g = f tt
+cond-ind P false x y f g = g tt
+
+-- only what holds where the test passes matters
+pub cond-same : {A : Type 0} (b : Bool) (x y z : A) → (T b → x ≡ y) → cond b x z ≡ cond b y z
+cond-same true x y z h = h tt
+cond-same false x y z h = refl
+
+pub and-same : (b x y : Bool) → (T b → x ≡ y) → (b && x) ≡ (b && y)
+and-same true x y h = h tt
+and-same false x y h = refl

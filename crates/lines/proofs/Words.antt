@@ -20,7 +20,8 @@ use Rattle.lines.specs.Sets.{has, with, without, all, rest, joined}
 use Rattle.lines.proofs.Tests.{T-true, by-cases}
 use Rattle.lines.proofs.Firsts.{first-is, first-at}
 use Rattle.lines.proofs.Squares.{table-ext}
-use Rattle.lines.proofs.Sets.{has-suc, has-low, has-up, has-le, has-empty, member-lt, sum-front, with-yes, with-no, without-yes, without-no}
+use Rattle.lines.proofs.Sums.{sum-front}
+use Rattle.lines.proofs.Sets.{has-suc, has-low, has-up, has-le, has-empty, member-lt, with-yes, with-no, without-yes, without-no}
 use Rattle.lines.proofs.Bits.{lowest-is, lowest-lt}
 
 -- ---- two words: the digits of r below, and those of a above

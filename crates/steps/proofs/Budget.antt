@@ -1,7 +1,7 @@
 -- The budget: it is never passed, a run is unfinished only where it is spent and a minimum is there, and with a larger one a run that came to another end is the same.
 use mathlib.Core.Path.{_≡_, refl, sym, ap, _∙_}
 use mathlib.Core.Logic.{_≢_}
-use mathlib.Core.Bool.{Bool, true, false, not, cond}
+use mathlib.Core.Bool.{Bool, true, false, not, cond, true≢false}
 use mathlib.Core.List.{List}
 use Prim.Native.Nat.{ℕ, zero, suc, _*_, _≤_}
 use native.Mathlib.Omega.{arith}
@@ -10,7 +10,7 @@ use lib.IntN.{ℤ}
 use Rattle.lines.proofs.Tests.{T-false, eqb-no, eqb-yes}
 use Rattle.steps.specs.Steps.{Next, Step3, Step4, Step5, Step6, Paired, NoPairing, Unfinished, Run, Machine, machine, to, start, step3, covering, reaching, step5, augmenting, adjusting, lowest, step6, step-at, step, steps}
 use Rattle.steps.proofs.Turns.{Lowest, step3-ind, step4-ind, step6-ind}
-use Rattle.steps.proofs.Runs.{over, clash, steps-stay, kept}
+use Rattle.steps.proofs.Runs.{over, steps-stay, kept}
 
 abbrev is-unfinished : Next → Bool
 is-unfinished Step3 = false
@@ -22,7 +22,7 @@ is-unfinished NoPairing = false
 is-unfinished Unfinished = true
 
 other : (x : Next) → is-unfinished x ≡ false → x ≢ Unfinished
-other x e u = clash (sym (ap is-unfinished u) ∙ e)
+other x e u = true≢false (sym (ap is-unfinished u) ∙ e)
 
 -- ---- never passed
 

@@ -6,27 +6,27 @@ use native.Mathlib.Omega.{arith}
 use Rattle.lines.specs.Sum.{sum}
 use Rattle.lines.specs.Count.{bit, count}
 use Rattle.steps.specs.Steps.{Next, Machine, covering, reaching, augmenting, adjusting, step, steps}
-use Rattle.steps.specs.Counts.{which, adjusts, primes, augments, turns}
+use Rattle.steps.specs.Counts.{adjusts, primes, augments, turns}
 use Rattle.steps.proofs.Turns.{step-ind}
 use Rattle.steps.proofs.Runs.{steps-last}
 
 module _ (n : ℕ) (ok : ℕ → ℕ → Bool) (budget : ℕ) where
   step-adjusts : (m : Machine) → step n ok budget m .run .adjustments ≡ m .run .adjustments + bit (adjusts (m .run .next) (step n ok budget m .run .next))
-  unfolding covering reaching augmenting adjusting adjusts which bit
+  unfolding covering reaching augmenting adjusting adjusts bit
   step-adjusts m =
       step-ind n ok budget m (λ x r. r .adjustments ≡ m .run .adjustments + bit (adjusts x (r .next)))
       (λ x. omega arith) (λ i s. omega arith) (λ i j. omega arith) (omega arith) (λ i j. omega arith) (omega arith) (λ e. omega arith) (λ e. omega arith)
       (omega arith) (omega arith) (omega arith)
 
   step-primes : (m : Machine) → step n ok budget m .run .primes ≡ m .run .primes + bit (primes (m .run .next) (step n ok budget m .run .next))
-  unfolding covering reaching augmenting adjusting primes which bit
+  unfolding covering reaching augmenting adjusting primes bit
   step-primes m =
       step-ind n ok budget m (λ x r. r .primes ≡ m .run .primes + bit (primes x (r .next)))
       (λ x. omega arith) (λ i s. omega arith) (λ i j. omega arith) (omega arith) (λ i j. omega arith) (omega arith) (λ e. omega arith) (λ e. omega arith)
       (omega arith) (omega arith) (omega arith)
 
   step-augments : (m : Machine) → step n ok budget m .run .augmentations ≡ m .run .augmentations + bit (augments (m .run .next) (step n ok budget m .run .next))
-  unfolding covering reaching augmenting adjusting augments which bit
+  unfolding covering reaching augmenting adjusting augments bit
   step-augments m =
       step-ind n ok budget m (λ x r. r .augmentations ≡ m .run .augmentations + bit (augments x (r .next)))
       (λ x. omega arith) (λ i s. omega arith) (λ i j. omega arith) (omega arith) (λ i j. omega arith) (omega arith) (λ e. omega arith) (λ e. omega arith)

@@ -11,11 +11,10 @@ use lib.Dec.{T, T-not, ltb}
 use lib.IntN.{ℤ, pos, negℤ, _+ℤ_, _-ℤ_}
 use lib.Signed.{_≤ℤ_}
 use Rattle.lines.specs.Count.{count}
-use Rattle.lines.proofs.Tests.{T-true, T-false}
+use Rattle.lines.proofs.Tests.{cond-ind, T-true, T-false}
 use Rattle.lines.proofs.Puts.{put, put-case}
 use Rattle.lines.proofs.Counts.{count-ext, count-put, count-le, bit-yes, bit-no}
 use Rattle.lines.proofs.Signed.{P, signed, plus-parts, minus-parts, neg-parts, whole, Within}
-use Rattle.steps.proofs.Turns.{cond-ind}
 
 -- a cell of working value 0: row price and column price add up to its cost
 pub tight : {C : ℕ} {k w : ℤ} (x y : ℤ) → Within C k → k ≡ x +ℤ y +ℤ w → w ≡ pos 0 → Within C (x +ℤ y)

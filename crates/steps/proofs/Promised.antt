@@ -1,7 +1,7 @@
 -- Every call has an outcome, and every outcome keeps the whole promise.
 use mathlib.Core.Path.{_≡_, refl, sym, ap, subst, _∙_}
 use mathlib.Core.Logic.{_≢_, _⊎_, inl, inr}
-use mathlib.Core.Bool.{Bool, true, false}
+use mathlib.Core.Bool.{Bool, true, false, true≢false}
 use mathlib.Core.List.{List}
 use mathlib.Core.Option.{Option, some, Option·some-injective, Option·none-ne-some}
 use Prim.Native.Nat.{ℕ, zero, suc, _+_, _-_, _*_, _/_, _≤_, _<_}
@@ -17,7 +17,7 @@ use Rattle.steps.specs.Refusal.{Verdict, refused, dead, accepted, verdic
 use Rattle.steps.specs.Steps.{Next, Step3, Step4, Step5, Step6, Paired, NoPairing, Unfinished, Machine, start}
 use Rattle.steps.specs.Outcome.{answer, no-run, chosen, written, given, judged, Outcome}
 use Rattle.steps.specs.Promise.{Fit, Promise}
-use Rattle.steps.proofs.Runs.{over, clash}
+use Rattle.steps.proofs.Runs.{over}
 use Rattle.steps.proofs.Search.{Sound-at}
 use Rattle.steps.proofs.Settles.{settles}
 use Rattle.steps.proofs.Start.{sound-start}
@@ -34,10 +34,10 @@ use Rattle.steps.proofs.Answers.{reached}
 module _ (limit : ℕ) (t : Task) (before : Buffers) where
   given-there : (m : Machine) (x : Next) → over x ≡ true → (o : Answer × Buffers) × (given t before m x ≡ some o)
   unfolding given
-  given-there m Step3 e = absurd (clash (sym e))
-  given-there m Step4 e = absurd (clash (sym e))
-  given-there m (Step5 i j) e = absurd (clash (sym e))
-  given-there m Step6 e = absurd (clash (sym e))
+  given-there m Step3 e = absurd (true≢false (sym e))
+  given-there m Step4 e = absurd (true≢false (sym e))
+  given-there m (Step5 i j) e = absurd (true≢false (sym e))
+  given-there m Step6 e = absurd (true≢false (sym e))
   given-there m Paired e = (_, refl)
   given-there m NoPairing e = (_, refl)
   given-there m Unfinished e = (_, refl)

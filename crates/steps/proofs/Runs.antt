@@ -1,22 +1,15 @@
 -- Runs of the machine, from any state: an end stays, there is one end, what each step keeps holds all the way, and a falling number ends the run.
 use mathlib.Core.Path.{_≡_, refl, sym, ap, _∙_}
-use mathlib.Core.Bool.{Bool, true, false}
+use mathlib.Core.Bool.{Bool, true, false, true≢false}
 use Prim.Native.Nat.{ℕ, zero, suc, _+_, _≤_, _<_}
 use native.Mathlib.Omega.{arith}
+use lib.Dec.{eqb}
+use Rattle.steps.specs.Counts.{which}
 use Rattle.steps.specs.Steps.{Next, Step3, Step4, Step5, Step6, Paired, NoPairing, Unfinished, Machine, step-at, step, steps}
 
 -- the three ends
 abbrev pub over : Next → Bool
-over Step3 = false
-over Step4 = false
-over (Step5 i j) = false
-over Step6 = false
-over Paired = true
-over NoPairing = true
-over Unfinished = true
-
-pub clash : true ≡ false → ⊥
-clash e = let z : _≡_ {A = ℕ} 0 1 = cc in omega arith
+over x = eqb (which x) 0
 
 module _ (n : ℕ) (ok : ℕ → ℕ → Bool) (budget : ℕ) where
   -- a machine that is over does not change
@@ -25,10 +18,10 @@ module _ (n : ℕ) (ok : ℕ → ℕ → Bool) (budget : ℕ) where
   stays m o = go (m .run .next) o
     where
       go : (x : Next) → over x ≡ true → step-at n ok budget x m ≡ m
-      go Step3 e = absurd (clash (sym e))
-      go Step4 e = absurd (clash (sym e))
-      go (Step5 i j) e = absurd (clash (sym e))
-      go Step6 e = absurd (clash (sym e))
+      go Step3 e = absurd (true≢false (sym e))
+      go Step4 e = absurd (true≢false (sym e))
+      go (Step5 i j) e = absurd (true≢false (sym e))
+      go Step6 e = absurd (true≢false (sym e))
       go Paired e = refl
       go NoPairing e = refl
       go Unfinished e = refl

@@ -2,7 +2,7 @@
 -- uncovered zero, so that a prime follows.
 use mathlib.Core.Path.{_≡_, refl, sym, ap, _∙_}
 use mathlib.Core.Logic.{dite}
-use mathlib.Core.Bool.{Bool, true, false, cond}
+use mathlib.Core.Bool.{Bool, true, false, cond, true≢false}
 use mathlib.Core.List.{List}
 use Prim.Native.Nat.{ℕ, suc, _+_, _-_, _*_, _≤_, _<_}
 use native.Mathlib.Nat.{mul-le-mul-right}
@@ -17,7 +17,7 @@ use Rattle.lines.proofs.Tests.{T-true}
 use Rattle.lines.proofs.Counts.{count-le}
 use Rattle.steps.specs.Steps.{Next, Step3, Step4, Step5, Step6, Paired, NoPairing, Unfinished, Run, Machine, machine, star-in-row, star-count, covering, reaching, path, flip, clear-primes, step5, augmenting, zero-column, adjusting, followed, step-at, step, steps}
 use Rattle.steps.proofs.Turns.{OpenZero, NoZero, zero-found, zero-none, crossed, step3-ind, step4-ind, step6-ind}
-use Rattle.steps.proofs.Runs.{over, ends, clash}
+use Rattle.steps.proofs.Runs.{over, ends}
 use Rattle.steps.proofs.Shape.{Shape, shape-step}
 use Rattle.steps.proofs.Adjusted.{lowest-zero}
 use Rattle.steps.proofs.Marks.{find-count}
@@ -96,9 +96,9 @@ module _ (n : ℕ) (ok : ℕ → ℕ → Bool) where
               waits-short (followed n ok z (m .run) (m .working)) (adjusting (m .run)) (l .row) (l .column)
                   (record { row-below = l .row-below; column-below = l .column-below; is-open = l .is-open; zero = lowest-zero n ok z (m .run) (m .working) (shape .working) l }),
             ))
-        go Paired h o = absurd (clash o)
-        go NoPairing h o = absurd (clash o)
-        go Unfinished h o = absurd (clash o)
+        go Paired h o = absurd (true≢false o)
+        go NoPairing h o = absurd (true≢false o)
+        go Unfinished h o = absurd (true≢false o)
 
     -- what each step keeps, and the end
     pub settles : (m : Machine) → Shape n m → Sound n ok m → (k : ℕ) × (over (steps n ok budget k m .run .next) ≡ true)

@@ -6,9 +6,10 @@ use Prim.Native.Nat.{ℕ, zero, suc, _+_, _*_}
 use lib.Dec.{ltb}
 use lib.IntN.{ℤ}
 use lib.ListN.{length, set, length-set}
+use Rattle.lines.proofs.Tests.{cond-ind}
 use Rattle.lines.proofs.Squares.{length-table, length-square, length-each}
 use Rattle.steps.specs.Steps.{Next, Step3, Step4, Step5, Step6, Paired, NoPairing, Unfinished, Run, Machine, machine, free-zero, star-row, step2, start, step4, clear-primes, path, flip, step5, augmenting, lowered, raised, followed, step-at, step}
-use Rattle.steps.proofs.Turns.{cond-ind, step4-ind, step6-ind}
+use Rattle.steps.proofs.Turns.{step4-ind, step6-ind}
 
 pub record Shape (n : ℕ) (m : Machine) : Type 0 where
   pub working : length (m .working) ≡ n * n

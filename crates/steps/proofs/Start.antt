@@ -11,12 +11,12 @@ use lib.IntN.{ℤ, pos}
 use lib.ListN.{set}
 use Rattle.lines.specs.Count.{count}
 use Rattle.lines.specs.Square.{cell, square}
-use Rattle.lines.proofs.Tests.{both, and-left, and-right}
+use Rattle.lines.proofs.Tests.{cond-ind, both, and-left, and-right}
 use Rattle.lines.proofs.Puts.{put, put-off, put-case}
 use Rattle.lines.proofs.Counts.{count-pos}
 use Rattle.lines.proofs.Firsts.{first-is}
 use Rattle.steps.specs.Steps.{Machine, star-in-column, star-count, zero-at, excess, free-zero, star-row, step2, start}
-use Rattle.steps.proofs.Turns.{cond-ind, zero-is, is-zero-pos}
+use Rattle.steps.proofs.Turns.{zero-is, is-zero-pos}
 use Rattle.steps.proofs.Matching.{Matching, moved, none-apart, starless, has-star}
 use Rattle.steps.proofs.Marks.{Shows, show-none, show-bare, show-starred, find-row, find-count}
 use Rattle.steps.proofs.Search.{Zero, Starred, Sound}

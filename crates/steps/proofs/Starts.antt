@@ -4,15 +4,12 @@ use mathlib.Core.Bool.{Bool, true, false, cond}
 use Prim.Native.Nat.{ℕ, _<_}
 use lib.Dec.{T}
 use lib.IntN.{ℤ}
+use Rattle.lines.proofs.Tests.{cond-same}
 use Rattle.lines.specs.First.{any, least}
 use Rattle.lines.proofs.Firsts.{any-is}
 use Rattle.lines.proofs.Leasts.{least-is, least-ext}
 use Rattle.lines.proofs.Squares.{table-ext, square-ext}
 use Rattle.steps.specs.Steps.{row-price, excess, start}
-
-cond-same : {A : Type 0} (b : Bool) (x y z : A) → (T b → x ≡ y) → cond b x z ≡ cond b y z
-cond-same true x y z h = h tt
-cond-same false x y z h = refl
 
 module _ (n : ℕ) (ok : ℕ → ℕ → Bool) (cost cost′ : ℕ → ℕ → ℤ) (rows : (i : ℕ) → i < n → T (any (ok i) n))
     (same : (i j : ℕ) → i < n → j < n → T (ok i j) → cost i j ≡ cost′ i j) where

@@ -13,7 +13,7 @@ use lib.Signed.{ltZ}
 use lib.ListN.{length, getD}
 use mir.Syntax.{w64}
 use mir.Val.{SFits}
-use Rattle.lines.proofs.Tests.{both}
+use Rattle.lines.proofs.Tests.{both, nor}
 use Rattle.lines.proofs.Squares.{place-lt, table-at}
 use Rattle.lines.proofs.Signed.{signed, Within, within-fits}
 use Rattle.steps.specs.declared.Answer.{Answer}
@@ -56,11 +56,6 @@ module _ (n : ℕ) (ok : ℕ → ℕ → Bool) {working : List ℤ} {marks : Lis
       find-prime s.shows r (star-off s.shows (time′ n ok s) s.row (s .phase .matching) (chained n ok s) r hr) in
       λ hp. let q : prime-in-row n marks r ≡ prime′ n ok s r = e ∙ (omega arith) in
       rw q (prime-there s.shows (time′ n ok s) s.row (s .phase .matching) (chained n ok s) r hr (omega arith))
-
-nor : (x y : Bool) → (T (x || y) → ⊥) → (x ≡ false) × (y ≡ false)
-nor true y f = absurd (f tt)
-nor false true f = absurd (f tt)
-nor false false f = (refl, refl)
 
 -- ---- the counts of an answer are the turns on the way to it
 

@@ -12,16 +12,11 @@ use lib.ListN.{getD, set}
 use Rattle.lines.specs.First.{first, least}
 use Rattle.lines.specs.Square.{cell}
 use Rattle.lines.specs.Sets.{has}
-use Rattle.lines.proofs.Tests.{both, and-left, and-right, T-yes, eqb-yes}
+use Rattle.lines.proofs.Tests.{cond-ind, both, and-left, and-right, T-yes, eqb-yes}
 use Rattle.lines.proofs.Firsts.{first-is}
 use Rattle.lines.proofs.Leasts.{least-is}
 use Rattle.lines.proofs.Squares.{place-lt, place-of, place-in, place-back}
 use Rattle.steps.specs.Steps.{Next, Step3, Step4, Step5, Step6, Paired, NoPairing, Unfinished, Run, run-with, Machine, to, is-zero, star-in-row, star-columns, star-count, zero-at, step3, uncovered, covering, reaching, zero-in-column, zero-column, step4, adjusting, lowest, followed, lowered, raised, step6, step5, augmenting, step-at, step}
-
--- what holds of both, with what the test says, holds of the choice
-pub cond-ind {ℓ} : {A : Type 0} (P : A → Type ℓ) (b : Bool) (x y : A) → (T b → P x) → (T (not b) → P y) → P (cond b x y)
-cond-ind P true x y f g = f tt
-cond-ind P false x y f g = g tt
 
 pub zero-is : (z : ℤ) → T (is-zero z) → z ≡ pos 0
 unfolding is-zero

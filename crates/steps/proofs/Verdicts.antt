@@ -9,12 +9,11 @@ use lib.Dec.{T, T-not, ltb, ltb→lt, eqb, eqb→eq, nltb→le}
 use lib.IntN.{ℤ, pos}
 use lib.ListN.{length, getD}
 use Rattle.lines.specs.First.{any}
-use Rattle.lines.proofs.Tests.{T-yes, and-left, eqb-yes}
+use Rattle.lines.proofs.Tests.{cond-ind, and-same, T-yes, and-left, eqb-yes}
 use Rattle.lines.proofs.Firsts.{first-is, any-is, any-no, first-ext}
 use Rattle.steps.specs.Lent.{Task, Buffers, allowed}
 use Rattle.steps.specs.Refusal.{Verdict, refused, dead, accepted, out-of-range, lengths, bad-mask, bad-cost, dead-row, verdict}
 use Rattle.steps.specs.Promise.{Fit}
-use Rattle.steps.proofs.Turns.{cond-ind}
 
 -- ---- what a verdict tells
 
@@ -100,13 +99,9 @@ pub record SameAllowed (t : Task) (costs′ : List ℤ) : Type 0 where
   pub size : length (t .costs) ≡ length costs′
   pub value : (q : ℕ) → q < t .n * t .n → T (eqb (getD (t .mask) q 1) 1) → getD (t .costs) q (pos 0) ≡ getD costs′ q (pos 0)
 
-guarded : (c x y : Bool) → (T c → x ≡ y) → (c && x) ≡ (c && y)
-guarded true x y h = h tt
-guarded false x y h = refl
-
 bad-cost-same : (t : Task) (costs′ : List ℤ) → SameAllowed t costs′ → (q : ℕ) → q < t .n * t .n → bad-cost (with-costs t costs′) q ≡ bad-cost t q
 unfolding bad-cost
-bad-cost-same t costs′ s q h = guarded (eqb (getD (t .mask) q 1) 1) _ _ (λ u. ap out-of-range (sym (s .value q h u)))
+bad-cost-same t costs′ s q h = and-same (eqb (getD (t .mask) q 1) 1) _ _ (λ u. ap out-of-range (sym (s .value q h u)))
 
 pub verdict-costs : (limit : ℕ) (t : Task) (b : Buffers) (costs′ : List ℤ) → SameAllowed t costs′ → verdict (with-costs t costs′) limit b ≡ verdict t limit b
 unfolding verdict lengths bad-mask dead-row allowed any

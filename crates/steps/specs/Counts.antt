@@ -6,7 +6,7 @@ use Rattle.lines.specs.Count.{count}
 use Rattle.steps.specs.Steps.{Next, Step3, Step4, Step5, Step6, Paired, NoPairing, Unfinished, Machine, step, steps}
 
 -- the number of the step, 0 at an end
-unfoldable pub which : Next → ℕ
+abbrev pub which : Next → ℕ
 which Step3 = 3
 which Step4 = 4
 which (Step5 i j) = 5

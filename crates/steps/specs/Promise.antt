@@ -37,28 +37,22 @@ working-at n b i j = cell (pos 0) n (b .working) i j
 pub record Promise (limit : ℕ) (t : Task) (before : Buffers) (a : Answer) (after : Buffers) : Type 0 where
   -- for every input the answer and every buffer are the definition's
   pub exact : Outcome limit t before a after
-
   -- 0: an allowed pairing with its total, and none has a smaller one
   pub pairing : a .number ≡ 0 → AllowedPairing (t .n) (t .n) (allowed t) (after .columns)
   pub totalled : a .number ≡ 0 → a .total ≡ total (cost t) (t .n) (after .columns)
   pub least : a .number ≡ 0 → NoneBelow (t .n) (t .n) (allowed t) (cost t) (a .total)
-
   -- 6: a block, so no allowed pairing exists
   pub block : a .number ≡ 6 → Block (t .n) (t .n) (allowed t) (has (a .«block_rows»)) (has (a .«block_columns»))
   pub impossible : a .number ≡ 6 → Impossible (t .n) (t .n) (allowed t)
-
   -- where a pairing exists, 0 or 7; where none exists, 6 or 7
   pub complete : Fit limit t before
       → ((q : List ℕ) → AllowedPairing (t .n) (t .n) (allowed t) q → (a .number ≡ 0) ⊎ (a .number ≡ 7))
       × (Impossible (t .n) (t .n) (allowed t) → (a .number ≡ 6) ⊎ (a .number ≡ 7))
-
   -- the ceilings of the counts
   pub ceilings : (a .adjustments ≤ t .n * (t .n - 1) / 2) × (a .primes ≤ t .n * (t .n + 1) / 2 - 1) × (a .augmentations ≤ t .n - 1)
-
   -- 7: the budget is spent, and it was less than the ceiling
   pub unfinished : a .number ≡ 7 → (a .adjustments ≡ t .budget) × (t .budget < t .n * (t .n - 1) / 2)
   pub enough : t .n * (t .n - 1) / 2 ≤ t .budget → a .number ≢ 7
-
   -- whenever the steps ran: cost = row price + column price + working, and a forbidden cell's working value is 0
   pub prices : verdict t limit before ≡ accepted
       → PriceList (t .n) (allowed t) (cost t) (row-price-at after) (column-price-at after) (working-at (t .n) after)
