@@ -15,7 +15,7 @@ use Rattle.lines.proofs.Squares.{place-lt, table-at}
 use Rattle.lines.proofs.Sumsℤ.{sumℤ-ext}
 use Rattle.assignment.specs.Problem.{total}
 use Rattle.steps.specs.declared.Answer.{Answer}
-use Rattle.steps.specs.Lent.{Task, Buffers, allowed, cost}
+use Rattle.steps.specs.Lent.{Task, Buffers, allowed, cost, allows, cost-at}
 use Rattle.steps.specs.Refusal.{Verdict, refused, dead, accepted, verdict}
 use Rattle.steps.specs.Steps.{Next, Step3, Step4, Step5, Step6, Paired, NoPairing, Unfinished, Machine, star-in-row, start, steps}
 use Rattle.steps.specs.Outcome.{answer, chosen, written, given, judged, Outcome}
@@ -133,7 +133,7 @@ given-unfinished t before m x o e u =
 
 judged-larger : (t : Task) (before : Buffers) (b′ : ℕ) (v : Verdict) (k : ℕ) (o : Answer × Buffers) → t .budget ≤ b′ → o .0 .number ≢ 7
     → judged t before k v ≡ some o → judged (with-budget t b′) before k v ≡ some o
-unfolding judged given written chosen allowed cost start
+unfolding judged given written chosen allows cost-at start
 judged-larger t before b′ (refused number place) k o h ne e = e
 judged-larger t before b′ (dead row) k o h ne e = e
 judged-larger t before b′ accepted k o h ne e =
@@ -156,7 +156,7 @@ PairedAllowed t = (k : ℕ) → reached t k .run .next ≡ Paired → (i : ℕ) 
 module _ (t : Task) (before : Buffers) (costs′ : List ℤ) (s : SameAllowed t costs′) where
   -- past the end of the costs, 0
   cost-same : length (t .costs) ≡ t .n * t .n → (i j : ℕ) → T (allowed t i j) → cost t i j ≡ cost (with-costs t costs′) i j
-  unfolding allowed cost
+  unfolding allows cost-at
   cost-same size i j u =
       dite (decLt (i * t .n + j) (t .n * t .n)) (λ h. s .value (i * t .n + j) h u)
       (λ h. List·getD-eq-default (t .costs) (pos 0) (omega arith) ∙ sym (List·getD-eq-default costs′ (pos 0) (omega (arith, s .size))))
@@ -180,7 +180,7 @@ module _ (t : Task) (before : Buffers) (costs′ : List ℤ) (s : SameAllowed t 
   given-costs m Unfinished size h = refl
 
   reached-costs : (k : ℕ) → ((i : ℕ) → i < t .n → T (any (allowed t i) (t .n))) → reached (with-costs t costs′) k ≡ reached t k
-  unfolding allowed cost
+  unfolding allows cost-at
   reached-costs k rows =
       ap (steps (t .n) (allowed t) (t .budget) k)
       (sym (start-same (t .n) (allowed t) (cost t) (cost (with-costs t costs′)) rows (λ i j hi hj u. s .value (i * t .n + j) (place-lt (t .n) i j hi hj) u)))

@@ -93,7 +93,7 @@ module _ (n : ℕ) (ok : ℕ → ℕ → Bool) (b b′ : ℕ) (h : b ≤ b′) w
       → step6 n ok b′ r working row-prices column-prices ≡ step6 n ok b r working row-prices column-prices
   unfolding step6
   larger-step6 r working row-prices column-prices l ne =
-      same-choice (λ o. o .0 .next ≡ Unfinished) (not (ltb (lowest n ok working r) (n * n))) (eqb (r .adjustments) b) (eqb (r .adjustments) b′) _ _ _ refl
+      same-choice (λ o. o .0 .next ≡ Unfinished) (not (ltb (lowest n ok working (r .rows) (r .columns)) (n * n))) (eqb (r .adjustments) b) (eqb (r .adjustments) b′) _ _ _ refl
       (λ e. T-false _ (eqb-no _ b′ (λ q. T-not (eqb (r .adjustments) b) (rw e tt) (eqb-yes _ b (omega arith))))) ne
 
   larger-step : (m : Machine) → m .run .adjustments ≤ b → step n ok b m .run .next ≢ Unfinished → step n ok b′ m ≡ step n ok b m

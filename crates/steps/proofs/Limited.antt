@@ -167,7 +167,7 @@ module _ (n : ℕ) (ok : ℕ → ℕ → Bool) (cost : ℕ → ℕ → ℤ) {C :
       -- step 6: by the least open working value z
       limits-moved : Shape n m → Search n ok (m .working) (m .marks) (m .run .rows) (m .run .columns) → (z : ℤ)
           → Lowest n ok (m .working) (m .run .rows) (m .run .columns) z
-          → Limits-on n C A B (m .marks) (has (m .run .rows)) (has (m .run .columns)) (lowered z (m .run) (m .row-prices)) (raised z (m .run) (m .column-prices))
+          → Limits-on n C A B (m .marks) (has (m .run .rows)) (has (m .run .columns)) (lowered z (m .run .rows) (m .row-prices)) (raised z (m .run .columns) (m .column-prices))
       limits-moved shape s z w =
           limits-same
           (limits-adjusted l z a b positive (w .row-below) (w .column-below) (w .is-open .column)
@@ -175,8 +175,8 @@ module _ (n : ℕ) (ok : ℕ → ℕ → Bool) (cost : ℕ → ℕ → ℤ) {C :
           (λ i hi h. not-T (has (m .run .rows) i) (λ t. omega (arith, s .phase .covered i hi t .0, find-star s.shows i)))
           (λ j hj h. not-T (has (m .run .columns) j) (λ t. omega (arith, s .phase .crossed j hj t .0, find-row s.shows s.row (s .phase .matching) j hj))))
           (λ i hi. refl) (λ j hj. refl) (λ i hi. refl) (λ j hj. refl)
-          (λ i hi. lowered-at z (m .run) (m .row-prices) i (omega (arith, shape .row-prices)))
-          (λ j hj. raised-at z (m .run) (m .column-prices) j (omega (arith, shape .column-prices)))
+          (λ i hi. lowered-at z (m .run .rows) (m .row-prices) i (omega (arith, shape .row-prices)))
+          (λ j hj. raised-at z (m .run .columns) (m .column-prices) j (omega (arith, shape .column-prices)))
         where
           a : ℕ
           a = w .row

@@ -46,20 +46,20 @@ module _ (n : ℕ) (ok : ℕ → ℕ → Bool) where
         )
 
   -- every row still has a zero after an adjustment
-  still-seen : {working : List ℤ} {marks : List ℕ} (z : ℤ) (r : Run) → length working ≡ n * n → Search n ok working marks (r .rows) (r .columns)
-      → NoZero n ok working (r .rows) (r .columns) → Seen n ok working → Seen n ok (followed n ok z r working)
-  still-seen {working} z r size s none seen i hi =
+  still-seen : {working : List ℤ} {marks : List ℕ} {rows columns : ℕ} (z : ℤ) → length working ≡ n * n → Search n ok working marks rows columns
+      → NoZero n ok working rows columns → Seen n ok working → Seen n ok (followed n ok z rows columns working)
+  still-seen {working} {rows = rows} {columns = columns} z size s none seen i hi =
       ⊎-elim
-      (λ t. let h = s .phase .covered i hi t .0 in (s .star i, h, adjusted n ok z r size s .phase .stars i hi h))
+      (λ t. let h = s .phase .covered i hi t .0 in (s .star i, h, adjusted n ok z size s .phase .stars i hi h))
       (λ t. let x = seen i hi in (
         x .0,
         x .1,
         ⊎-elim
-            (λ u. (x .2 .0, column-stays n ok z r working size i (x .0) hi (x .1) t u ∙ x .2 .1))
+            (λ u. (x .2 .0, column-stays n ok z rows columns working size i (x .0) hi (x .1) t u ∙ x .2 .1))
             (λ u. absurd (none i (x .0) hi (x .1) (record { row = t; column = u; allowed = x .2 .0 }) (x .2 .1)))
-            (T-or (has (r .columns) (x .0))),
+            (T-or (has columns (x .0))),
       ))
-      (T-or (has (r .rows) i))
+      (T-or (has rows i))
 
 -- ---- the invariant
 
@@ -145,13 +145,13 @@ module _ (n : ℕ) (ok : ℕ → ℕ → Bool) (s₀ : ℕ) (f g : ℕ → ℕ) 
                 d = 1;
                 flag = omega arith;
                 room = omega (arith, room-left n ok (h .0) (h .1) (p .seen));
-                zero = λ q. (l .row, l .column, record { row-below = l .row-below; column-below = l .column-below; is-open = l .is-open; zero = lowest-zero n ok z (m .run) (m .working) (shape .working) l });
+                zero = λ q. (l .row, l .column, record { row-below = l .row-below; column-below = l .column-below; is-open = l .is-open; zero = lowest-zero n ok z (m .run .rows) (m .run .columns) (m .working) (shape .working) l });
                 pace = record {
                   since = p .since;
                   adjustments = omega (arith, p .adjustments);
                   primes = p .primes;
                   augmentations = p .augmentations;
-                  seen = still-seen n ok z (m .run) (shape .working) (h .0) (h .1) (p .seen);
+                  seen = still-seen n ok z (shape .working) (h .0) (h .1) (p .seen);
                 };
               };
             })

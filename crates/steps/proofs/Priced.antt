@@ -80,22 +80,22 @@ module _ (n : ℕ) (ok : ℕ → ℕ → Bool) (cost : ℕ → ℕ → ℤ) wher
 
   module _ (m : Machine) (s : Shape n m) (p : Priced n ok cost m) where
     priced-adjust : (r : Run) (z : ℤ) → Lowest n ok (m .working) (m .run .rows) (m .run .columns) z
-        → Priced n ok cost (machine r (followed n ok z (m .run) (m .working)) (m .marks) (lowered z (m .run) (m .row-prices)) (raised z (m .run) (m .column-prices)))
+        → Priced n ok cost (machine r (followed n ok z (m .run .rows) (m .run .columns) (m .working)) (m .marks) (lowered z (m .run .rows) (m .row-prices)) (raised z (m .run .columns) (m .column-prices)))
     priced-adjust r z l = record {
       equation = λ i j hi hj t.
           let old-row = getD (m .row-prices) i (pos 0) in
           let old-column = getD (m .column-prices) j (pos 0) in
           rw (
-            lowered-at z (m .run) (m .row-prices) i (omega (arith, s .row-prices)),
-            raised-at z (m .run) (m .column-prices) j (omega (arith, s .column-prices)),
-            followed-at n ok z (m .run) (m .working) (s .working) i j hi hj,
+            lowered-at z (m .run .rows) (m .row-prices) i (omega (arith, s .row-prices)),
+            raised-at z (m .run .columns) (m .column-prices) j (omega (arith, s .column-prices)),
+            followed-at n ok z (m .run .rows) (m .run .columns) (m .working) (s .working) i j hi hj,
             T-true (ok i j) t,
           ) (equation-kept (has (m .run .rows) i) (has (m .run .columns) j) (cost i j) old-row old-column (cell (pos 0) n (m .working) i j) z (p .equation i j hi hj t));
       whole = λ i j hi hj t.
-          rw (followed-at n ok z (m .run) (m .working) (s .working) i j hi hj, T-true (ok i j) t)
+          rw (followed-at n ok z (m .run .rows) (m .run .columns) (m .working) (s .working) i j hi hj, T-true (ok i j) t)
           (whole-kept (has (m .run .rows) i) (has (m .run .columns) j) _ z (p .whole i j hi hj t) positive
           (λ u v. l .low i j hi hj (record { row = u; column = v; allowed = t })));
-      none = λ i j hi hj t. forbidden-stays n ok z (m .run) (m .working) (s .working) i j hi hj t ∙ p .none i j hi hj t;
+      none = λ i j hi hj t. forbidden-stays n ok z (m .run .rows) (m .run .columns) (m .working) (s .working) i j hi hj t ∙ p .none i j hi hj t;
     }
       where
         positive : pos 0 ≤ℤ z

@@ -200,18 +200,18 @@ module _ (n : ℕ) (ok : ℕ → ℕ → Bool) where
           omega (arith, e, find-count s.shows, flipped .more, bit-ge (s .star i) n s.bare)
 
   -- step 6: cells on one covered line keep their working values
-  abbrev pub adjusted : {working : List ℤ} {marks : List ℕ} (z : ℤ) (r : Run) → length working ≡ n * n → Search working marks (r .rows) (r .columns)
-      → Search (followed n ok z r working) marks (r .rows) (r .columns)
-  adjusted {working} z r size s = record {
+  abbrev pub adjusted : {working : List ℤ} {marks : List ℕ} {rows columns : ℕ} (z : ℤ) → length working ≡ n * n → Search working marks rows columns
+      → Search (followed n ok z rows columns working) marks rows columns
+  adjusted {working} {rows = rows} {columns = columns} z size s = record {
     star = s .star;
     row = s .row;
     prime = s .prime;
     time = s .time;
     shows = s .shows;
     phase =
-        phase-adjusted s.phase (Zero (followed n ok z r working))
-        (λ i j hi hj t u o. (o .0, row-stays n ok z r working size i j hi hj t u ∙ o .1))
-        (λ i j hi hj t u o. (o .0, column-stays n ok z r working size i j hi hj t u ∙ o .1));
+        phase-adjusted s.phase (Zero (followed n ok z rows columns working))
+        (λ i j hi hj t u o. (o .0, row-stays n ok z rows columns working size i j hi hj t u ∙ o .1))
+        (λ i j hi hj t u o. (o .0, column-stays n ok z rows columns working size i j hi hj t u ∙ o .1));
     missing = s .missing;
   }
 
@@ -237,7 +237,7 @@ module _ (n : ℕ) (ok : ℕ → ℕ → Bool) where
             step6-ind n ok budget (m .run) (m .working) (m .row-prices) (m .column-prices) (λ o. Sound (machine (o .0) (o .1) (m .marks) (o .2) (o .3)))
             (λ none. record { at-next = (h .0, none) })
             (λ z l e. record { at-next = (h .0, h .1) })
-            (λ z l e. record { at-next = adjusted z (m .run) (shape .working) (h .0) })
+            (λ z l e. record { at-next = adjusted z (shape .working) (h .0) })
         go Paired h = sound
         go NoPairing h = sound
         go Unfinished h = sound

@@ -12,11 +12,11 @@ use lib.Dec.{T, ltb, ltb→lt, lt→ltb}
 use lib.IntN.{ℤ}
 use lib.ListN.{set}
 use Rattle.lines.specs.Count.{count}
-use Rattle.lines.specs.Sets.{has, with}
+use Rattle.lines.specs.Sets.{has, with, without}
 use Rattle.lines.proofs.Tests.{T-true}
 use Rattle.lines.proofs.Counts.{count-le}
-use Rattle.steps.specs.Steps.{Next, Step3, Step4, Step5, Step6, Paired, NoPairing, Unfinished, Run, Machine, machine, star-in-row, star-count, covering, reaching, path, flip, clear-primes, step5, augmenting, zero-column, adjusting, followed, step-at, step, steps}
-use Rattle.steps.proofs.Turns.{OpenZero, NoZero, zero-found, zero-none, crossed, step3-ind, step4-ind, step6-ind}
+use Rattle.steps.specs.Steps.{Next, Step3, Step4, Step5, Step6, Paired, NoPairing, Unfinished, Run, Machine, machine, star-in-row, star-columns, star-count, covering, reaching, path, flip, clear-primes, step5, augmenting, zero-column, adjusting, followed, step-at, step, steps}
+use Rattle.steps.proofs.Turns.{OpenZero, NoZero, zero-found, zero-none, step3-ind, step4-ind, step6-ind}
 use Rattle.steps.proofs.Runs.{over, ends}
 use Rattle.steps.proofs.Shape.{Shape, shape-step}
 use Rattle.steps.proofs.Adjusted.{lowest-zero}
@@ -25,38 +25,38 @@ use Rattle.steps.proofs.Search.{Search, Sound, Sound-at, sound-step, sa
 
 module _ (n : ℕ) (ok : ℕ → ℕ → Bool) where
   -- 1 where step 4 will find a zero, and 3 where it will not
-  unfoldable pub waits : List ℤ → Run → ℕ
-  waits working r = cond (ltb (zero-column n ok working r) n) 1 3
+  unfoldable pub waits : List ℤ → ℕ → ℕ → ℕ
+  waits working rows columns = cond (ltb (zero-column n ok working rows columns) n) 1 3
 
-  waits-some : (working : List ℤ) (r : Run) → (1 ≤ waits working r) × (waits working r ≤ 3)
+  waits-some : (working : List ℤ) (rows columns : ℕ) → (1 ≤ waits working rows columns) × (waits working rows columns ≤ 3)
   unfolding waits
-  waits-some working r = go (ltb (zero-column n ok working r) n)
+  waits-some working rows columns = go (ltb (zero-column n ok working rows columns) n)
     where
       go : (b : Bool) → (1 ≤ cond b 1 3) × (cond b 1 3 ≤ 3)
       go true = omega arith
       go false = omega arith
 
-  waits-short : (working : List ℤ) (r : Run) (i j : ℕ) → OpenZero n ok working (r .rows) (r .columns) i j → waits working r ≡ 1
+  waits-short : (working : List ℤ) (rows columns : ℕ) (i j : ℕ) → OpenZero n ok working rows columns i j → waits working rows columns ≡ 1
   unfolding waits
-  waits-short working r i j z =
-      dite (decLt (zero-column n ok working r) n)
-      (λ h. rw (T-true (ltb (zero-column n ok working r) n) (lt→ltb _ n h)))
-      (λ h. absurd (zero-none n ok working r (omega arith) i j (z .row-below) (z .column-below) (z .is-open) (z .zero)))
+  waits-short working rows columns i j z =
+      dite (decLt (zero-column n ok working rows columns) n)
+      (λ h. rw (T-true (ltb (zero-column n ok working rows columns) n) (lt→ltb _ n h)))
+      (λ h. absurd (zero-none n ok working rows columns (omega arith) i j (z .row-below) (z .column-below) (z .is-open) (z .zero)))
 
-  waits-long : (working : List ℤ) (r : Run) → NoZero n ok working (r .rows) (r .columns) → waits working r ≡ 3
+  waits-long : (working : List ℤ) (rows columns : ℕ) → NoZero n ok working rows columns → waits working rows columns ≡ 3
   unfolding waits
-  waits-long working r none = go (ltb (zero-column n ok working r) n) refl
+  waits-long working rows columns none = go (ltb (zero-column n ok working rows columns) n) refl
     where
-      go : (b : Bool) → ltb (zero-column n ok working r) n ≡ b → _≡_ {A = ℕ} (cond b 1 3) 3
+      go : (b : Bool) → ltb (zero-column n ok working rows columns) n ≡ b → _≡_ {A = ℕ} (cond b 1 3) 3
       go true e =
-          let z = zero-found n ok working r (ltb→lt _ n (rw e tt)) in
+          let z = zero-found n ok working rows columns (ltb→lt _ n (rw e tt)) in
           absurd (none _ _ (z .row-below) (z .column-below) (z .is-open) (z .zero))
       go false e = refl
 
   -- what is left to do: stars that are missing, rows to cover, and the step
   unfoldable pub turn : Next → Machine → ℕ
   turn Step3 m = 4
-  turn Step4 m = waits (m .working) (m .run)
+  turn Step4 m = waits (m .working) (m .run .rows) (m .run .columns)
   turn (Step5 i j) m = 0
   turn Step6 m = 2
   turn Paired m = 0
@@ -77,12 +77,12 @@ module _ (n : ℕ) (ok : ℕ → ℕ → Bool) where
         go : (x : Next) → Sound-at n ok x m → over x ≡ false → left (step-at n ok budget x m) < left-at x m
         go Step3 h o =
             step3-ind n ok (m .marks) (m .run) (λ r. left (machine r (m .working) (m .marks) (m .row-prices) (m .column-prices)) < left-at Step3 m)
-            (λ full. omega arith) (λ part. omega (arith, waits-some (m .working) (crossed n ok (m .marks) (m .run) Step4)))
+            (λ full. omega arith) (λ part. omega (arith, waits-some (m .working) (m .run .rows) (star-columns n (m .marks))))
         go Step4 s o =
             step4-ind n ok (m .working) (m .run) (m .marks) (λ o. left (machine (o .0) (m .working) (o .1) (m .row-prices) (m .column-prices)) < left-at Step4 m)
-            (λ i j z h. rw (same-stars n ok s i j z) (omega (arith, one-row-more n ok s i j z, waits-some (m .working) (covering i (star-in-row n (set (m .marks) (i * n + j) 2) i) (m .run)), count-le (has (with (m .run .rows) i)) n)))
-            (λ i j z h. rw (same-stars n ok s i j z) (omega (arith, waits-some (m .working) (m .run))))
-            (λ none. omega (arith, waits-long (m .working) (m .run) none))
+            (λ i j z h. rw (same-stars n ok s i j z) (omega (arith, one-row-more n ok s i j z, waits-some (m .working) (with (m .run .rows) i) (without (m .run .columns) (star-in-row n (set (m .marks) (i * n + j) 2) i)), count-le (has (with (m .run .rows) i)) n)))
+            (λ i j z h. rw (same-stars n ok s i j z) (omega (arith, waits-some (m .working) (m .run .rows) (m .run .columns))))
+            (λ none. omega (arith, waits-long (m .working) (m .run .rows) (m .run .columns) none))
         go (Step5 i j) s o =
             let after = star-count n (clear-primes (flip n (m .marks) (path n (m .marks) n i j))) in
             let more : after ≡ suc (star-count n (m .marks)) = one-star-more n ok s in
@@ -93,8 +93,8 @@ module _ (n : ℕ) (ok : ℕ → ℕ → Bool) where
             (λ z l e. omega arith)
             (λ z l e. omega (
               arith,
-              waits-short (followed n ok z (m .run) (m .working)) (adjusting (m .run)) (l .row) (l .column)
-                  (record { row-below = l .row-below; column-below = l .column-below; is-open = l .is-open; zero = lowest-zero n ok z (m .run) (m .working) (shape .working) l }),
+              waits-short (followed n ok z (m .run .rows) (m .run .columns) (m .working)) (m .run .rows) (m .run .columns) (l .row) (l .column)
+                  (record { row-below = l .row-below; column-below = l .column-below; is-open = l .is-open; zero = lowest-zero n ok z (m .run .rows) (m .run .columns) (m .working) (shape .working) l }),
             ))
         go Paired h o = absurd (true≢false o)
         go NoPairing h o = absurd (true≢false o)

@@ -17,7 +17,7 @@ use Rattle.lines.proofs.Tests.{both, nor}
 use Rattle.lines.proofs.Squares.{place-lt, table-at}
 use Rattle.lines.proofs.Signed.{signed, Within, within-fits}
 use Rattle.steps.specs.declared.Answer.{Answer}
-use Rattle.steps.specs.Lent.{Task, Buffers, allowed, cost}
+use Rattle.steps.specs.Lent.{Task, Buffers, allowed, cost, allows, cost-at}
 use Rattle.steps.specs.Refusal.{accepted, out-of-range, bad-cost, verdict}
 use Rattle.steps.specs.Steps.{Next, Step3, Step4, Step5, Step6, Paired, NoPairing, Unfinished, Run, Machine, star-in-column, prime-in-row, star-in-row, start, path, steps}
 use Rattle.steps.specs.Counts.{adjusts, primes, augments, turns}
@@ -97,7 +97,7 @@ module _ (limit : ℕ) (t : Task) (before : Buffers) where
   most-cost = 1_000_000_000
 
   cost-within : Accepted limit t before → (i j : ℕ) → i < t .n → j < t .n → T (allowed t i j) → Within most-cost (cost t i j)
-  unfolding allowed cost bad-cost out-of-range
+  unfolding allows cost-at bad-cost out-of-range
   cost-within f i j hi hj u =
       let q = i * t .n + j in
       in-range (getD (t .costs) q (pos 0)) (λ bad. T-not (bad-cost t q) (f .fit .costs q (place-lt (t .n) i j hi hj)) (both (eqb (getD (t .mask) q 1) 1) _ u bad))

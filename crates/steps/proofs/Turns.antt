@@ -59,66 +59,66 @@ module _ (n : ℕ) (ok : ℕ → ℕ → Bool) where
 
   -- ---- step 4's search
 
-  module _ (working : List ℤ) (r : Run) where
+  module _ (working : List ℤ) (rows columns : ℕ) where
     zero? : ℕ → ℕ → Bool
-    zero? i j = uncovered r i j && zero-at n ok working i j
+    zero? i j = uncovered rows columns i j && zero-at n ok working i j
 
-    zero?-is : (i j : ℕ) → i < n → j < n → T (zero? i j) → OpenZero working (r .rows) (r .columns) i j
+    zero?-is : (i j : ℕ) → i < n → j < n → T (zero? i j) → OpenZero working rows columns i j
     unfolding zero? uncovered zero-at
     zero?-is i j hi hj t =
-        let u = and-left (not (has (r .rows) i) && not (has (r .columns) j)) _ t in
-        let z = and-right (not (has (r .rows) i) && not (has (r .columns) j)) _ t in
+        let u = and-left (not (has rows i) && not (has columns j)) _ t in
+        let z = and-right (not (has rows i) && not (has columns j)) _ t in
         record {
           row-below = hi;
           column-below = hj;
-          is-open = record { row = and-left (not (has (r .rows) i)) _ u; column = and-right (not (has (r .rows) i)) _ u; allowed = and-left (ok i j) _ z };
+          is-open = record { row = and-left (not (has rows i)) _ u; column = and-right (not (has rows i)) _ u; allowed = and-left (ok i j) _ z };
           zero = zero-is _ (and-right (ok i j) _ z);
         }
 
-    is-zero? : (i j : ℕ) → Open ok (r .rows) (r .columns) i j → cell (pos 0) n working i j ≡ pos 0 → T (zero? i j)
+    is-zero? : (i j : ℕ) → Open ok rows columns i j → cell (pos 0) n working i j ≡ pos 0 → T (zero? i j)
     unfolding zero? uncovered zero-at
     is-zero? i j o e =
-        both (not (has (r .rows) i) && not (has (r .columns) j)) _ (both (not (has (r .rows) i)) _ (o .row) (o .column))
+        both (not (has rows i) && not (has columns j)) _ (both (not (has rows i)) _ (o .row) (o .column))
         (both (ok i j) _ (o .allowed) (rw e is-zero-pos))
 
-    pub zero-found : zero-column n ok working r < n → OpenZero working (r .rows) (r .columns) (zero-in-column n ok working r (zero-column n ok working r)) (zero-column n ok working r)
+    pub zero-found : zero-column n ok working rows columns < n → OpenZero working rows columns (zero-in-column n ok working rows columns (zero-column n ok working rows columns)) (zero-column n ok working rows columns)
     unfolding zero-column zero-in-column zero?
     zero-found h =
-        let j = zero-column n ok working r in
-        let l : zero-in-column n ok working r j < n = ltb→lt _ _ (first-is (λ j. ltb (zero-in-column n ok working r j) n) n .hit h) in
+        let j = zero-column n ok working rows columns in
+        let l : zero-in-column n ok working rows columns j < n = ltb→lt _ _ (first-is (λ j. ltb (zero-in-column n ok working rows columns j) n) n .hit h) in
         zero?-is _ j l h (first-is (λ i. zero? i j) n .hit l)
 
-    pub zero-none : n ≤ zero-column n ok working r → NoZero working (r .rows) (r .columns)
+    pub zero-none : n ≤ zero-column n ok working rows columns → NoZero working rows columns
     unfolding zero-column zero-in-column zero?
     zero-none h i j hi hj o e =
-        let l : n ≤ zero-in-column n ok working r j = nltb→le _ _ (first-is (λ j. ltb (zero-in-column n ok working r j) n) n .before j (omega arith)) in
+        let l : n ≤ zero-in-column n ok working rows columns j = nltb→le _ _ (first-is (λ j. ltb (zero-in-column n ok working rows columns j) n) n .before j (omega arith)) in
         T-not (zero? i j) (first-is (λ i. zero? i j) n .before i (omega arith)) (is-zero? i j o e)
 
     -- ---- step 6's search
 
     open? : ℕ → ℕ → Bool
-    open? i j = uncovered r i j && ok i j
+    open? i j = uncovered rows columns i j && ok i j
 
-    open?-is : (i j : ℕ) → T (open? i j) → Open ok (r .rows) (r .columns) i j
+    open?-is : (i j : ℕ) → T (open? i j) → Open ok rows columns i j
     unfolding open? uncovered
     open?-is i j t =
-        let u = and-left (not (has (r .rows) i) && not (has (r .columns) j)) _ t in
-        record { row = and-left (not (has (r .rows) i)) _ u; column = and-right (not (has (r .rows) i)) _ u; allowed = and-right (not (has (r .rows) i) && not (has (r .columns) j)) _ t }
+        let u = and-left (not (has rows i) && not (has columns j)) _ t in
+        record { row = and-left (not (has rows i)) _ u; column = and-right (not (has rows i)) _ u; allowed = and-right (not (has rows i) && not (has columns j)) _ t }
 
-    is-open? : (i j : ℕ) → Open ok (r .rows) (r .columns) i j → T (open? i j)
+    is-open? : (i j : ℕ) → Open ok rows columns i j → T (open? i j)
     unfolding open? uncovered
-    is-open? i j o = both (not (has (r .rows) i) && not (has (r .columns) j)) _ (both (not (has (r .rows) i)) _ (o .row) (o .column)) (o .allowed)
+    is-open? i j o = both (not (has rows i) && not (has columns j)) _ (both (not (has rows i)) _ (o .row) (o .column)) (o .allowed)
 
-    low-at : (i j : ℕ) → i < n → j < n → Open ok (r .rows) (r .columns) i j → (lowest n ok working r < n * n) × (getD working (lowest n ok working r) (pos 0) ≤ℤ cell (pos 0) n working i j)
+    low-at : (i j : ℕ) → i < n → j < n → Open ok rows columns i j → (lowest n ok working rows columns < n * n) × (getD working (lowest n ok working rows columns) (pos 0) ≤ℤ cell (pos 0) n working i j)
     unfolding lowest open?
     low-at i j hi hj o =
         let q = place-of n i j hj in
         least-is (λ q. open? (q / n) (q % n)) (λ q. getD working q (pos 0)) (n * n) .low (i * n + j) (place-lt n i j hi hj) (rw (q .0, q .1) (is-open? i j o))
 
-    pub lowest-found : lowest n ok working r < n * n → Lowest working (r .rows) (r .columns) (getD working (lowest n ok working r) (pos 0))
+    pub lowest-found : lowest n ok working rows columns < n * n → Lowest working rows columns (getD working (lowest n ok working rows columns) (pos 0))
     unfolding lowest open?
     lowest-found h =
-        let v = lowest n ok working r in
+        let v = lowest n ok working rows columns in
         let p = place-in n v h in
         record {
           row = v / n;
@@ -130,7 +130,7 @@ module _ (n : ℕ) (ok : ℕ → ℕ → Bool) where
           low = λ i j hi hj o. low-at i j hi hj o .1;
         }
 
-    pub lowest-none : n * n ≤ lowest n ok working r → NoOpen (r .rows) (r .columns)
+    pub lowest-none : n * n ≤ lowest n ok working rows columns → NoOpen rows columns
     lowest-none h i j hi hj o = omega (arith, low-at i j hi hj o .0)
 
   -- ---- the steps by cases
@@ -157,29 +157,29 @@ module _ (n : ℕ) (ok : ℕ → ℕ → Bool) where
         → P (step4 n ok working r marks)
     unfolding step4
     step4-ind P covers reaches none =
-        let j = zero-column n ok working r in
-        let i = zero-in-column n ok working r j in
+        let j = zero-column n ok working (r .rows) (r .columns) in
+        let i = zero-in-column n ok working (r .rows) (r .columns) j in
         let s = star-in-row n (marked i j) i in
         cond-ind P (ltb j n) (cond (ltb s n) (covering i s r) (reaching i j r), marked i j) (to Step6 r, marks)
-        (λ t. let z = zero-found working r (ltb→lt j n t) in
+        (λ t. let z = zero-found working (r .rows) (r .columns) (ltb→lt j n t) in
         cond-ind (λ x. P (x, marked i j)) (ltb s n) (covering i s r) (reaching i j r) (λ u. covers i j z (ltb→lt s n u)) (λ u. reaches i j z (nltb→le s n u)))
-        (λ t. none (zero-none working r (nltb→le j n t)))
+        (λ t. none (zero-none working (r .rows) (r .columns) (nltb→le j n t)))
 
   module _ (budget : ℕ) (r : Run) (working row-prices column-prices : List ℤ) where
     pub step6-ind : (P : Run × List ℤ × List ℤ × List ℤ → Type 0)
         → (NoOpen (r .rows) (r .columns) → P (to NoPairing r, working, row-prices, column-prices))
         → ((z : ℤ) → Lowest working (r .rows) (r .columns) z → r .adjustments ≡ budget → P (to Unfinished r, working, row-prices, column-prices))
-        → ((z : ℤ) → Lowest working (r .rows) (r .columns) z → r .adjustments ≢ budget → P (adjusting r, followed n ok z r working, lowered z r row-prices, raised z r column-prices))
+        → ((z : ℤ) → Lowest working (r .rows) (r .columns) z → r .adjustments ≢ budget → P (adjusting r, followed n ok z (r .rows) (r .columns) working, lowered z (r .rows) row-prices, raised z (r .columns) column-prices))
         → P (step6 n ok budget r working row-prices column-prices)
     unfolding step6
     step6-ind P none spent adjusts =
-        let q = lowest n ok working r in
+        let q = lowest n ok working (r .rows) (r .columns) in
         let z = getD working q (pos 0) in
         cond-ind P (not (ltb q (n * n))) (to NoPairing r, working, row-prices, column-prices) _
-        (λ t. none (lowest-none working r (nltb→le q (n * n) t)))
-        (λ t. let l = lowest-found working r (ltb→lt q (n * n) (T-yes (ltb q (n * n)) (λ u. T-not (not (ltb q (n * n))) t u))) in
+        (λ t. none (lowest-none working (r .rows) (r .columns) (nltb→le q (n * n) t)))
+        (λ t. let l = lowest-found working (r .rows) (r .columns) (ltb→lt q (n * n) (T-yes (ltb q (n * n)) (λ u. T-not (not (ltb q (n * n))) t u))) in
         cond-ind P (eqb (r .adjustments) budget) (to Unfinished r, working, row-prices, column-prices)
-        (adjusting r, followed n ok z r working, lowered z r row-prices, raised z r column-prices)
+        (adjusting r, followed n ok z (r .rows) (r .columns) working, lowered z (r .rows) row-prices, raised z (r .columns) column-prices)
         (λ u. spent z l (eqb→eq _ budget u))
         (λ u. adjusts z l (λ e. T-not (eqb (r .adjustments) budget) u (eqb-yes _ budget e))))
 

@@ -11,7 +11,7 @@ use lib.ListN.{length, getD}
 use Rattle.lines.specs.First.{any}
 use Rattle.lines.proofs.Tests.{cond-ind, and-same, T-yes, and-left, eqb-yes}
 use Rattle.lines.proofs.Firsts.{first-is, any-is, any-no, first-ext}
-use Rattle.steps.specs.Lent.{Task, Buffers, allowed}
+use Rattle.steps.specs.Lent.{Task, Buffers, allowed, allows}
 use Rattle.steps.specs.Refusal.{Verdict, refused, dead, accepted, out-of-range, lengths, bad-mask, bad-cost, dead-row, verdict}
 use Rattle.steps.specs.Promise.{Fit}
 
@@ -86,7 +86,7 @@ abbrev pub with-budget : Task → ℕ → Task
 with-budget t b = record { n = t .n; costs = t .costs; mask = t .mask; budget = b }
 
 pub verdict-budget : (limit : ℕ) (t : Task) (b : Buffers) (budget : ℕ) → verdict (with-budget t budget) limit b ≡ verdict t limit b
-unfolding verdict lengths bad-mask bad-cost dead-row allowed
+unfolding verdict lengths bad-mask bad-cost dead-row allows
 verdict-budget limit t b budget = refl
 
 -- ---- other costs in forbidden cells
@@ -104,5 +104,5 @@ unfolding bad-cost
 bad-cost-same t costs′ s q h = and-same (eqb (getD (t .mask) q 1) 1) _ _ (λ u. ap out-of-range (sym (s .value q h u)))
 
 pub verdict-costs : (limit : ℕ) (t : Task) (b : Buffers) (costs′ : List ℤ) → SameAllowed t costs′ → verdict (with-costs t costs′) limit b ≡ verdict t limit b
-unfolding verdict lengths bad-mask dead-row allowed any
+unfolding verdict lengths bad-mask dead-row allows any
 verdict-costs limit t b costs′ s = rw (first-ext (bad-cost (with-costs t costs′)) (bad-cost t) (t .n * t .n) (bad-cost-same t costs′ s), ← s .size)

@@ -21,10 +21,15 @@ pub record Buffers : Type 0 where
   pub row-prices : List ℤ
   pub column-prices : List ℤ
 
-module _ (t : Task) where
-  -- past the end of what is lent, a cell is allowed and costs 0
-  unfoldable pub allowed : ℕ → ℕ → Bool
-  allowed i j = eqb (cell 1 (t .n) (t .mask) i j) 1
+-- cells of rows of n; past the end of what is lent, a cell is allowed and costs 0
+unfoldable pub allows : ℕ → List ℕ → ℕ → ℕ → Bool
+allows n mask i j = eqb (cell 1 n mask i j) 1
 
-  unfoldable pub cost : ℕ → ℕ → ℤ
-  cost i j = cell (pos 0) (t .n) (t .costs) i j
+unfoldable pub cost-at : ℕ → List ℤ → ℕ → ℕ → ℤ
+cost-at n costs i j = cell (pos 0) n costs i j
+
+abbrev pub allowed : Task → ℕ → ℕ → Bool
+allowed t = allows (t .n) (t .mask)
+
+abbrev pub cost : Task → ℕ → ℕ → ℤ
+cost t = cost-at (t .n) (t .costs)

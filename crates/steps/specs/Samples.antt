@@ -14,7 +14,7 @@ use Rattle.lines.specs.Square.{table, square, each-from, each}
 use Rattle.lines.specs.Sets.{has, with, without, all, rest, those}
 use Rattle.assignment.specs.Problem.{total}
 use Rattle.steps.specs.declared.Answer.{Answer}
-use Rattle.steps.specs.Lent.{Task, Buffers, allowed, cost}
+use Rattle.steps.specs.Lent.{Task, Buffers, allowed, cost, allows, cost-at}
 use Rattle.steps.specs.Refusal.{Verdict, out-of-range, lengths, bad-mask, bad-cost, dead-row, verdict}
 use Rattle.steps.specs.Steps.{is-zero, star-in-row, star-in-column, prime-in-row, zero-at, row-price, excess, free-zero, star-row, step2, start, star-columns, star-count, step3, uncovered, zero-in-column, zero-column, covering, reaching, step4, path, flip, clear-primes, step5, augmenting, lowest, adjusting, follow, lowered, raised, followed, step6, step-at, step, steps}
 use Rattle.steps.specs.Outcome.{chosen, written, given, judged}
@@ -30,7 +30,7 @@ prior : ℕ → Buffers
 prior n = record { working = replicate (n * n) (pos 9); marks = replicate (n * n) 9; columns = replicate n 9; row-prices = replicate n (pos 9); column-prices = replicate n (pos 9) }
 
 run : ℕ → Task → Option (Answer × Buffers)
-unfolding sum sumℤ bit count first-on first any least-on least table square each-from each has with without all rest those total allowed cost out-of-range lengths bad-mask bad-cost dead-row verdict is-zero star-in-row star-in-column prime-in-row zero-at row-price excess free-zero star-row step2 start star-columns star-count step3 uncovered zero-in-column zero-column covering reaching step4 path flip clear-primes step5 augmenting lowest adjusting follow lowered raised followed step6 step-at step steps chosen written given judged prior
+unfolding sum sumℤ bit count first-on first any least-on least table square each-from each has with without all rest those total allows cost-at out-of-range lengths bad-mask bad-cost dead-row verdict is-zero star-in-row star-in-column prime-in-row zero-at row-price excess free-zero star-row step2 start star-columns star-count step3 uncovered zero-in-column zero-column covering reaching step4 path flip clear-primes step5 augmenting lowest adjusting follow lowered raised followed step6 step-at step steps chosen written given judged prior
 run k t = judged t (prior (t .n)) k (verdict t 64 (prior (t .n)))
 
 fig : Option (Answer × Buffers) → List ℕ

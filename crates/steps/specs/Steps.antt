@@ -115,8 +115,8 @@ module _ (n : ℕ) where
 
 -- ---- step 4: the first uncovered zero, column by column and downwards in each, is primed
 
-unfoldable pub uncovered : Run → ℕ → ℕ → Bool
-uncovered r i j = not (has (r .rows) i) && not (has (r .columns) j)
+unfoldable pub uncovered : ℕ → ℕ → ℕ → ℕ → Bool
+uncovered rows columns i j = not (has rows i) && not (has columns j)
 
 -- the row of the prime has a star, in column s: it is covered, and s uncovered
 unfoldable pub covering : ℕ → ℕ → Run → Run
@@ -127,16 +127,16 @@ unfoldable pub reaching : ℕ → ℕ → Run → Run
 reaching i j r = run-with (r .rows) (r .columns) (r .adjustments) (r .primes + 1) (r .augmentations) (Step5 i j)
 
 module _ (n : ℕ) (ok : ℕ → ℕ → Bool) where
-  unfoldable pub zero-in-column : List ℤ → Run → ℕ → ℕ
-  zero-in-column working r j = first (λ i. uncovered r i j && zero-at n ok working i j) n
+  unfoldable pub zero-in-column : List ℤ → ℕ → ℕ → ℕ → ℕ
+  zero-in-column working rows columns j = first (λ i. uncovered rows columns i j && zero-at n ok working i j) n
 
-  unfoldable pub zero-column : List ℤ → Run → ℕ
-  zero-column working r = first (λ j. ltb (zero-in-column working r j) n) n
+  unfoldable pub zero-column : List ℤ → ℕ → ℕ → ℕ
+  zero-column working rows columns = first (λ j. ltb (zero-in-column working rows columns j) n) n
 
   unfoldable pub step4 : List ℤ → Run → List ℕ → Run × List ℕ
   step4 working r marks =
-      let j = zero-column working r in
-      let i = zero-in-column working r j in
+      let j = zero-column working (r .rows) (r .columns) in
+      let i = zero-in-column working (r .rows) (r .columns) j in
       let marked = set marks (i * n + j) 2 in
       let s = star-in-row n marked i in
       cond (ltb j n) (cond (ltb s n) (covering i s r) (reaching i j r), marked) (to Step6 r, marks)
@@ -174,26 +174,26 @@ adjusting r = run-with (r .rows) (r .columns) (r .adjustments + 1) (r .primes) (
 unfoldable pub follow : ℤ → Bool → Bool → ℤ → ℤ
 follow m row column w = cond row (cond column (w +ℤ m) w) (cond column w (w -ℤ m))
 
-unfoldable pub lowered : ℤ → Run → List ℤ → List ℤ
-lowered m r = each (λ i p. cond (has (r .rows) i) (p -ℤ m) p)
+unfoldable pub lowered : ℤ → ℕ → List ℤ → List ℤ
+lowered m rows = each (λ i p. cond (has rows i) (p -ℤ m) p)
 
-unfoldable pub raised : ℤ → Run → List ℤ → List ℤ
-raised m r = each (λ j p. cond (has (r .columns) j) p (p +ℤ m))
+unfoldable pub raised : ℤ → ℕ → List ℤ → List ℤ
+raised m columns = each (λ j p. cond (has columns j) p (p +ℤ m))
 
 module _ (n : ℕ) (ok : ℕ → ℕ → Bool) where
-  unfoldable pub lowest : List ℤ → Run → ℕ
-  lowest working r = least (λ q. uncovered r (q / n) (q % n) && ok (q / n) (q % n)) (λ q. getD working q (pos 0)) (n * n)
+  unfoldable pub lowest : List ℤ → ℕ → ℕ → ℕ
+  lowest working rows columns = least (λ q. uncovered rows columns (q / n) (q % n) && ok (q / n) (q % n)) (λ q. getD working q (pos 0)) (n * n)
 
-  unfoldable pub followed : ℤ → Run → List ℤ → List ℤ
-  followed m r = each (λ q w. cond (ok (q / n) (q % n)) (follow m (has (r .rows) (q / n)) (has (r .columns) (q % n)) w) w)
+  unfoldable pub followed : ℤ → ℕ → ℕ → List ℤ → List ℤ
+  followed m rows columns = each (λ q w. cond (ok (q / n) (q % n)) (follow m (has rows (q / n)) (has columns (q % n)) w) w)
 
   unfoldable pub step6 : ℕ → Run → List ℤ → List ℤ → List ℤ → Run × List ℤ × List ℤ × List ℤ
   step6 budget r working row-prices column-prices =
-      let q = lowest working r in
+      let q = lowest working (r .rows) (r .columns) in
       let m = getD working q (pos 0) in
       cond (not (ltb q (n * n))) (to NoPairing r, working, row-prices, column-prices)
       (cond (eqb (r .adjustments) budget) (to Unfinished r, working, row-prices, column-prices)
-      (adjusting r, followed m r working, lowered m r row-prices, raised m r column-prices))
+      (adjusting r, followed m (r .rows) (r .columns) working, lowered m (r .rows) row-prices, raised m (r .columns) column-prices))
 
 -- ---- one step, and several
 
