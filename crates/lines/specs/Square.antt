@@ -1,6 +1,8 @@
 -- Lists as lines of cells, and the cells of a square that is stored row by row.
 use Prim.Native.Nat.{ℕ, zero, suc, _+_, _*_, _/_, _%_}
+use mathlib.Core.Bool.{cond}
 use mathlib.Core.List.{List, [], _∷_}
+use lib.Dec.{eqb}
 use lib.ListN.{getD}
 
 module _ {A : Type 0} where
@@ -24,3 +26,7 @@ module _ {A : Type 0} where
   -- the list whose element i is f i of what stood there
   unfoldable pub each : (ℕ → A → A) → List A → List A
   each f xs = each-from f zero xs
+
+  -- the same for the cells of row i alone
+  unfoldable pub each-row : ℕ → ℕ → (ℕ → A → A) → List A → List A
+  each-row n i f xs = each (λ q x. cond (eqb (q / n) i) (f (q % n) x) x) xs

@@ -100,7 +100,7 @@ module _ (limit : ℕ) (t : Task) (before : Buffers) where
   unfolding allows cost-at bad-cost out-of-range
   cost-within f i j hi hj u =
       let q = i * t .n + j in
-      in-range (getD (t .costs) q (pos 0)) (λ bad. T-not (bad-cost t q) (f .fit .costs q (place-lt (t .n) i j hi hj)) (both (eqb (getD (t .mask) q 1) 1) _ u bad))
+      in-range (getD (t .costs) q (pos 0)) (λ bad. T-not (bad-cost (t .costs) (t .mask) q) (f .fit .costs q (place-lt (t .n) i j hi hj)) (both (eqb (getD (t .mask) q 1) 1) _ u bad))
     where
       in-range : (z : ℤ) → (T (out-of-range z) → ⊥) → Within most-cost z
       in-range z f =

@@ -35,18 +35,18 @@ module _ (limit : ℕ) (t : Task) (b : Buffers) where
       cond-ind Tells (eqb (t .n) 0) _ _ (λ t1. (omega arith, omega arith, λ f. omega (arith, eqb→eq (t .n) 0 t1, f .some))) (λ t1.
       cond-ind Tells (ltb limit (t .n)) _ _ (λ t2. (omega arith, omega arith, λ f. omega (arith, ltb→lt limit (t .n) t2, f .most))) (λ t2.
       cond-ind Tells (not (lengths t b)) _ _ (λ t3. (omega arith, omega arith, λ f. T-not (lengths t b) t3 (f .sizes))) (λ t3.
-      cond-ind Tells (any (bad-mask t) cells) _ _ (λ t4. (omega arith, omega arith, λ f. let x = any-is (bad-mask t) cells t4 in T-not (bad-mask t (x .0)) (f .masks (x .0) (x .1)) (x .2))) (λ t4.
-      cond-ind Tells (any (bad-cost t) cells) _ _ (λ t5. (omega arith, omega arith, λ f. let x = any-is (bad-cost t) cells t5 in T-not (bad-cost t (x .0)) (f .costs (x .0) (x .1)) (x .2))) (λ t5.
-      cond-ind Tells (any (dead-row t) (t .n)) _ _ (λ t6. let h = ltb→lt _ (t .n) t6 in (h, first-is (dead-row t) (t .n) .hit h)) (λ t6.
+      cond-ind Tells (any (bad-mask (t .mask)) cells) _ _ (λ t4. (omega arith, omega arith, λ f. let x = any-is (bad-mask (t .mask)) cells t4 in T-not (bad-mask (t .mask) (x .0)) (f .masks (x .0) (x .1)) (x .2))) (λ t4.
+      cond-ind Tells (any (bad-cost (t .costs) (t .mask)) cells) _ _ (λ t5. (omega arith, omega arith, λ f. let x = any-is (bad-cost (t .costs) (t .mask)) cells t5 in T-not (bad-cost (t .costs) (t .mask) (x .0)) (f .costs (x .0) (x .1)) (x .2))) (λ t5.
+      cond-ind Tells (any (dead-row (t .n) (t .mask)) (t .n)) _ _ (λ t6. let h = ltb→lt _ (t .n) t6 in (h, first-is (dead-row (t .n) (t .mask)) (t .n) .hit h)) (λ t6.
       record {
         fit = record {
           some = positive (λ z. T-not (eqb (t .n) 0) t1 (eqb-yes (t .n) 0 z));
           most = nltb→le limit (t .n) t2;
           sizes = T-yes (lengths t b) (λ u. T-not (not (lengths t b)) t3 u);
-          masks = any-no (bad-mask t) cells t4;
-          costs = any-no (bad-cost t) cells t5;
+          masks = any-no (bad-mask (t .mask)) cells t4;
+          costs = any-no (bad-cost (t .costs) (t .mask)) cells t5;
         };
-        rows = λ i h. T-yes (any (allowed t i) (t .n)) (λ u. T-not (dead-row t i) (any-no (dead-row t) (t .n) t6 i h) u);
+        rows = λ i h. T-yes (any (allowed t i) (t .n)) (λ u. T-not (dead-row (t .n) (t .mask) i) (any-no (dead-row (t .n) (t .mask)) (t .n) t6 i h) u);
       }))))))
     where
       positive : t .n ≢ 0 → 0 < t .n
@@ -99,10 +99,10 @@ pub record SameAllowed (t : Task) (costs′ : List ℤ) : Type 0 where
   pub size : length (t .costs) ≡ length costs′
   pub value : (q : ℕ) → q < t .n * t .n → T (eqb (getD (t .mask) q 1) 1) → getD (t .costs) q (pos 0) ≡ getD costs′ q (pos 0)
 
-bad-cost-same : (t : Task) (costs′ : List ℤ) → SameAllowed t costs′ → (q : ℕ) → q < t .n * t .n → bad-cost (with-costs t costs′) q ≡ bad-cost t q
+bad-cost-same : (t : Task) (costs′ : List ℤ) → SameAllowed t costs′ → (q : ℕ) → q < t .n * t .n → bad-cost costs′ (t .mask) q ≡ bad-cost (t .costs) (t .mask) q
 unfolding bad-cost
 bad-cost-same t costs′ s q h = and-same (eqb (getD (t .mask) q 1) 1) _ _ (λ u. ap out-of-range (sym (s .value q h u)))
 
 pub verdict-costs : (limit : ℕ) (t : Task) (b : Buffers) (costs′ : List ℤ) → SameAllowed t costs′ → verdict (with-costs t costs′) limit b ≡ verdict t limit b
 unfolding verdict lengths bad-mask dead-row allows any
-verdict-costs limit t b costs′ s = rw (first-ext (bad-cost (with-costs t costs′)) (bad-cost t) (t .n * t .n) (bad-cost-same t costs′ s), ← s .size)
+verdict-costs limit t b costs′ s = rw (first-ext (bad-cost costs′ (t .mask)) (bad-cost (t .costs) (t .mask)) (t .n * t .n) (bad-cost-same t costs′ s), ← s .size)

@@ -22,8 +22,8 @@ pub record Fit (limit : ℕ) (t : Task) (before : Buffers) : Type 0 where
   pub some : 0 < t .n
   pub most : t .n ≤ limit
   pub sizes : T (lengths t before)
-  pub masks : (q : ℕ) → q < t .n * t .n → T (not (bad-mask t q))
-  pub costs : (q : ℕ) → q < t .n * t .n → T (not (bad-cost t q))
+  pub masks : (q : ℕ) → q < t .n * t .n → T (not (bad-mask (t .mask) q))
+  pub costs : (q : ℕ) → q < t .n * t .n → T (not (bad-cost (t .costs) (t .mask) q))
 
 abbrev pub row-price-at : Buffers → ℕ → ℤ
 row-price-at b i = getD (b .row-prices) i (pos 0)

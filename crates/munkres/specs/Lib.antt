@@ -1,0 +1,5 @@
+pub mod Square
+pub mod View
+pub mod Least
+pub mod Cell
+pub mod Path

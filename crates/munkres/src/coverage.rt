@@ -1,0 +1,95 @@
+// Covered lines: a set of rows or of columns is one 64-bit word, bit i for line i; and step 4's search among the uncovered cells.
+ghost use mathlib.Core.Path.{_≡_};
+ghost use mathlib.Core.Bool.{not, _&&_};
+ghost use Prim.Native.Nat.{_<_, _≤_};
+ghost use Rattle.lines.specs.First.{first};
+ghost use Rattle.lines.specs.Sets.{has, with, without, all as all-below, rest};
+ghost use Rattle.steps.specs.Lent.{allows};
+ghost use Rattle.steps.specs.Steps.{zero-at};
+ghost use Rattle.munkres.specs.Square.{Square};
+ghost use Rattle.munkres.specs.Cell.{found-zero};
+use crate::weight_matrix;
+
+// A cell, or none.
+pub(crate) enum Cell {
+    At(usize, usize),
+    Nothing,
+}
+
+pub(crate) fn is_covered(lines: u64, line: usize) -> bool
+    requires { ⌜ line < 64 ⌝ }
+    ensures { λ r. ⌜ r ≡ has lines line ⌝ }
+{
+    (lines >> line) & 1 == 1
+}
+
+pub(crate) fn cover(lines: u64, line: usize) -> u64
+    requires { ⌜ line < 64 ⌝ }
+    ensures { λ r. ⌜ r ≡ with lines line ⌝ }
+{
+    lines | (1u64 << line)
+}
+
+pub(crate) fn uncover(lines: u64, line: usize) -> u64
+    requires { ⌜ line < 64 ⌝ }
+    ensures { λ r. ⌜ r ≡ without lines line ⌝ }
+{
+    lines & !(1u64 << line)
+}
+
+// The first n lines.
+pub(crate) fn all_lines(n: usize) -> u64
+    requires { ⌜ (1 ≤ n) × (n ≤ 64) ⌝ }
+    ensures { λ r. ⌜ r ≡ all-below n ⌝ }
+{
+    0xffff_ffff_ffff_ffff >> (64 - n)
+}
+
+// The lines below n that are not covered.
+pub(crate) fn uncovered_lines(n: usize, lines: u64) -> u64
+    requires { ⌜ (1 ≤ n) × (n ≤ 64) ⌝ }
+    ensures { λ r. ⌜ r ≡ rest n lines ⌝ }
+{
+    !lines & all_lines(n)
+}
+
+// The first uncovered row with a zero in the column, or n.
+fn find_zero_in_column(n: usize, mask: &[u8], working: &[i64], rows: u64, column: usize) -> usize
+    requires { ⌜ Square n (now mask) × Square n (now working) × (column < n) ⌝ }
+    ensures { λ r. ⌜ r ≡ first (λ i. not (has rows i) && zero-at n (allows n (now (mask .entry))) (now (working .entry)) i column) n ⌝ }
+{
+    let mut row = 0;
+    while row < n {
+        if !is_covered(rows, row) {
+            if weight_matrix::is_element_zero(mask, working, row * n + column) {
+                return row;
+            }
+        }
+        row += 1;
+    }
+    n
+}
+
+// The first uncovered zero, column by column and downwards in each.
+pub(crate) fn find_uncovered_cell_column_row_order(
+    n: usize,
+    mask: &[u8],
+    working: &[i64],
+    rows: u64,
+    columns: u64,
+) -> Cell
+    requires { ⌜ Square n (now mask) × Square n (now working) ⌝ }
+    ensures { λ r. ⌜ r ≡ found-zero n (allows n (now (mask .entry))) (now (working .entry)) rows columns ⌝ }
+{
+    let mut column = 0;
+    while column < n {
+        if !is_covered(columns, column) {
+            let row = find_zero_in_column(n, mask, working, rows, column);
+            if row < n {
+                return Cell::At(row, column);
+            }
+        }
+        column += 1;
+    }
+    Cell::Nothing
+}

@@ -1,0 +1,57 @@
+// Step 5's path: its places are recorded first, and flipped then.
+ghost use mathlib.Core.Path.{_≡_};
+ghost use Prim.Native.Nat.{ℕ, _*_, _<_, _≤_};
+ghost use lib.ListN.{length, getD};
+ghost use Rattle.steps.specs.Steps.{path, flip};
+ghost use Rattle.munkres.specs.Square.{Square};
+ghost use Rattle.munkres.specs.Path.{zipped, Ends};
+use crate::mark_matrix;
+
+// From the prime at (row, column) to the star in its column, to the prime in that star's row, and so on. Returns how many places there are.
+pub(crate) fn find_path(
+    n: usize,
+    marks: &[u8],
+    row: usize,
+    column: usize,
+    rows: &mut [usize],
+    columns: &mut [usize],
+) -> usize
+    requires { ⌜ Square n (now marks) × (length (now rows) ≡ 127) × (length (now columns) ≡ 127) × Ends n (now marks) n row column ⌝ }
+    ensures { λ k. ⌜ (zipped (now (rows .exit)) (now (columns .exit)) k ≡ path n (now (marks .entry)) n row column) × (k < 2 * n) × (length (now (rows .exit)) ≡ 127) × (length (now (columns .exit)) ≡ 127) ⌝ }
+{
+    let mut count = 0;
+    let mut i = row;
+    let mut j = column;
+    loop {
+        rows[count] = i;
+        columns[count] = j;
+        let o = mark_matrix::find_first_star_in_column(n, marks, j);
+        if o == n {
+            return count + 1;
+        }
+        rows[count + 1] = o;
+        columns[count + 1] = j;
+        count += 2;
+        i = o;
+        j = mark_matrix::find_first_prime_in_row(n, marks, o);
+    }
+}
+
+// Flips the first `count` places.
+pub(crate) fn toggle_path(
+    n: usize,
+    marks: &mut [u8],
+    rows: &[usize],
+    columns: &[usize],
+    count: usize,
+)
+    requires { ⌜ Square n (now marks) × (count ≤ length (now rows)) × (count ≤ length (now columns))
+        × ((k : ℕ) → k < count → (getD (now rows) k 0 < n) × (getD (now columns) k 0 < n)) ⌝ }
+    ensures { λ _. ⌜ now (marks .exit) ≡ flip n (now (marks .entry)) (zipped (now (rows .entry)) (now (columns .entry)) count) ⌝ }
+{
+    let mut k = 0;
+    while k < count {
+        mark_matrix::toggle_star(marks, rows[k] * n + columns[k]);
+        k += 1;
+    }
+}

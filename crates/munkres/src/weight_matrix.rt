@@ -1,0 +1,252 @@
+// Working values and prices: row minima, the least uncovered value, and what an adjustment changes.
+ghost use mathlib.Core.Path.{_≡_};
+ghost use mathlib.Core.Bool.{cond, not, _&&_};
+ghost use Prim.Native.Nat.{ℕ, _+_, _*_, _/_, _%_, _<_, _≤_};
+ghost use lib.Dec.{T, eqb};
+ghost use lib.IntN.{pos, _-ℤ_};
+ghost use lib.ListN.{length, getD};
+ghost use mir.Syntax.{w64};
+ghost use mir.Val.{SFits};
+ghost use Rattle.lines.specs.First.{any};
+ghost use Rattle.lines.specs.Square.{table, square, each-row};
+ghost use Rattle.lines.specs.Sets.{has};
+ghost use Rattle.lines.proofs.Signed.{Within};
+ghost use Rattle.steps.specs.Lent.{allows, cost-at};
+ghost use Rattle.steps.specs.Steps.{is-zero, row-price, excess, uncovered, follow, followed, lowered, raised};
+ghost use Rattle.munkres.specs.Square.{Square, Fit64};
+ghost use Rattle.munkres.specs.Least.{lesser-of, least-from};
+use crate::coverage;
+
+pub(crate) enum Least {
+    Value(i64),
+    Nothing,
+}
+
+fn lesser(least: Least, value: i64) -> Least
+    ensures { λ r. ⌜ r ≡ lesser-of least value ⌝ }
+{
+    match least {
+        Least::Nothing => Least::Value(value),
+        Least::Value(best) => if value < best {
+            Least::Value(value)
+        } else {
+            Least::Value(best)
+        },
+    }
+}
+
+// An allowed cell with working value 0.
+pub(crate) fn is_element_zero(mask: &[u8], working: &[i64], place: usize) -> bool
+    requires { ⌜ (place < length (now mask)) × (place < length (now working)) ⌝ }
+    ensures { λ r. ⌜ r ≡ (eqb (getD (now (mask .entry)) place 1) 1 && is-zero (getD (now (working .entry)) place (pos 0))) ⌝ }
+{
+    if working[place] != 0 {
+        return false;
+    }
+    mask[place] == 1
+}
+
+// ---- step 1
+
+// The least allowed cost of the row.
+fn min_of_row(n: usize, costs: &[i32], mask: &[u8], row: usize) -> Least
+    requires { ⌜ Square n (now costs) × Square n (now mask) × (row < n) ⌝ }
+    ensures { λ r. ⌜ r ≡ least-from Least.Nothing (allows n (now (mask .entry)) row) (cost-at n (now (costs .entry)) row) n ⌝ }
+{
+    let start = row * n;
+    let mut least = Least::Nothing;
+    let mut column = 0;
+    while column < n {
+        if mask[start + column] == 1 {
+            least = lesser(least, costs[start + column] as i64);
+        }
+        column += 1;
+    }
+    least
+}
+
+// The row's price; 0 for a row without an allowed cell, of which there is none.
+fn price_of_row(n: usize, costs: &[i32], mask: &[u8], row: usize) -> i64
+    requires { ⌜ Square n (now costs) × Square n (now mask) × (row < n) × T (any (allows n (now mask) row) n) ⌝ }
+    ensures { λ r. ⌜ r ≡ row-price n (allows n (now (mask .entry))) (cost-at n (now (costs .entry))) row ⌝ }
+{
+    match min_of_row(n, costs, mask, row) {
+        Least::Value(price) => price,
+        Least::Nothing => 0,
+    }
+}
+
+// Each allowed cell of the row becomes what its cost is above the price, and each other one 0.
+fn sub_row(n: usize, costs: &[i32], mask: &[u8], row: usize, price: i64, working: &mut [i64])
+    requires { ⌜ Square n (now costs) × Square n (now mask) × Square n (now working) × (row < n) × Within 2147483648 price ⌝ }
+    ensures { λ _. ⌜ now (working .exit) ≡ each-row n row (λ j w. cond (allows n (now (mask .entry)) row j) (cost-at n (now (costs .entry)) row j -ℤ price) (pos 0)) (now (working .entry)) ⌝ }
+{
+    let start = row * n;
+    let mut column = 0;
+    while column < n {
+        let place = start + column;
+        if mask[place] == 1 {
+            working[place] = costs[place] as i64 - price;
+        } else {
+            working[place] = 0;
+        }
+        column += 1;
+    }
+}
+
+pub(crate) fn sub_min_of_each_row(
+    n: usize,
+    costs: &[i32],
+    mask: &[u8],
+    working: &mut [i64],
+    row_prices: &mut [i64],
+)
+    requires { ⌜ Square n (now costs) × Square n (now mask) × Square n (now working) × (length (now «row_prices») ≡ n) × ((i : ℕ) → i < n → T (any (allows n (now mask) i) n)) ⌝ }
+    ensures { λ _. ⌜ (now (working .exit) ≡ square (excess n (allows n (now (mask .entry))) (cost-at n (now (costs .entry)))) n)
+        × (now («row_prices» .exit) ≡ table (row-price n (allows n (now (mask .entry))) (cost-at n (now (costs .entry)))) n) ⌝ }
+{
+    let mut row = 0;
+    while row < n {
+        let price = price_of_row(n, costs, mask, row);
+        row_prices[row] = price;
+        sub_row(n, costs, mask, row, price, working);
+        row += 1;
+    }
+}
+
+// ---- step 6
+
+// The least of a least value so far and the row's allowed cells in uncovered columns.
+fn least_in_row(
+    n: usize,
+    mask: &[u8],
+    working: &[i64],
+    columns: u64,
+    row: usize,
+    so_far: Least,
+) -> Least
+    requires { ⌜ Square n (now mask) × Square n (now working) × (row < n) ⌝ }
+    ensures { λ r. ⌜ r ≡ least-from «so_far» (λ j. not (has columns j) && allows n (now (mask .entry)) row j) (λ j. getD (now (working .entry)) (row * n + j) (pos 0)) n ⌝ }
+{
+    let start = row * n;
+    let mut least = so_far;
+    let mut column = 0;
+    while column < n {
+        if !coverage::is_covered(columns, column) {
+            if mask[start + column] == 1 {
+                least = lesser(least, working[start + column]);
+            }
+        }
+        column += 1;
+    }
+    least
+}
+
+// The least allowed uncovered working value.
+pub(crate) fn least_uncovered(
+    n: usize,
+    mask: &[u8],
+    working: &[i64],
+    rows: u64,
+    columns: u64,
+) -> Least
+    requires { ⌜ Square n (now mask) × Square n (now working) ⌝ }
+    ensures { λ r. ⌜ r ≡ least-from Least.Nothing (λ q. uncovered rows columns (q / n) (q % n) && allows n (now (mask .entry)) (q / n) (q % n)) (λ q. getD (now (working .entry)) q (pos 0)) (n * n) ⌝ }
+{
+    let mut least = Least::Nothing;
+    let mut row = 0;
+    while row < n {
+        if !coverage::is_covered(rows, row) {
+            least = least_in_row(n, mask, working, columns, row, least);
+        }
+        row += 1;
+    }
+    least
+}
+
+// The row's working values follow the prices: up where row and column are covered, down where neither is.
+fn follow_row(
+    n: usize,
+    mask: &[u8],
+    columns: u64,
+    row: usize,
+    covered: bool,
+    change: i64,
+    working: &mut [i64],
+)
+    requires { ⌜ Square n (now mask) × Square n (now working) × (row < n) × SFits w64 change
+        × ((j : ℕ) → j < n → T (allows n (now mask) row j) → SFits w64 (follow change covered (has columns j) (getD (now working) (row * n + j) (pos 0)))) ⌝ }
+    ensures { λ _. ⌜ now (working .exit) ≡ each-row n row (λ j w. cond (allows n (now (mask .entry)) row j) (follow change covered (has columns j) w) w) (now (working .entry)) ⌝ }
+{
+    let start = row * n;
+    let mut column = 0;
+    while column < n {
+        let place = start + column;
+        if mask[place] == 1 {
+            if coverage::is_covered(columns, column) {
+                if covered {
+                    working[place] = working[place] + change;
+                }
+            } else {
+                if !covered {
+                    working[place] = working[place] - change;
+                }
+            }
+        }
+        column += 1;
+    }
+}
+
+pub(crate) fn follow_prices(
+    n: usize,
+    mask: &[u8],
+    rows: u64,
+    columns: u64,
+    change: i64,
+    working: &mut [i64],
+)
+    requires { ⌜ Square n (now mask) × Square n (now working) × SFits w64 change × Fit64 (followed n (allows n (now mask)) change rows columns (now working)) ⌝ }
+    ensures { λ _. ⌜ now (working .exit) ≡ followed n (allows n (now (mask .entry))) change rows columns (now (working .entry)) ⌝ }
+{
+    let mut row = 0;
+    while row < n {
+        follow_row(
+            n,
+            mask,
+            columns,
+            row,
+            coverage::is_covered(rows, row),
+            change,
+            working,
+        );
+        row += 1;
+    }
+}
+
+// The price of each covered row falls.
+pub(crate) fn lower_prices(rows: u64, change: i64, prices: &mut [i64])
+    requires { ⌜ (length (now prices) ≤ 64) × SFits w64 change × Fit64 (lowered change rows (now prices)) ⌝ }
+    ensures { λ _. ⌜ now (prices .exit) ≡ lowered change rows (now (prices .entry)) ⌝ }
+{
+    let mut row = 0;
+    while row < prices.len() {
+        if coverage::is_covered(rows, row) {
+            prices[row] = prices[row] - change;
+        }
+        row += 1;
+    }
+}
+
+// The price of each uncovered column rises.
+pub(crate) fn raise_prices(columns: u64, change: i64, prices: &mut [i64])
+    requires { ⌜ (length (now prices) ≤ 64) × SFits w64 change × Fit64 (raised change columns (now prices)) ⌝ }
+    ensures { λ _. ⌜ now (prices .exit) ≡ raised change columns (now (prices .entry)) ⌝ }
+{
+    let mut column = 0;
+    while column < prices.len() {
+        if !coverage::is_covered(columns, column) {
+            prices[column] = prices[column] + change;
+        }
+        column += 1;
+    }
+}
