@@ -3,3 +3,4 @@ pub mod View
 pub mod Least
 pub mod Cell
 pub mod Path
+pub mod Good

@@ -1,0 +1,5 @@
+-- HOLE
+use Rattle.munkres.proofs.coverage.cover.Statement.{statement}
+
+pub cover-spec : {M : Type 1} → statement M
+cover-spec = ?

@@ -1,0 +1,5 @@
+-- HOLE
+use Rattle.munkres.proofs.start.Statement.{statement}
+
+pub start-spec : {M : Type 1} → statement M
+start-spec = ?

@@ -1,0 +1,5 @@
+-- HOLE
+use Rattle.munkres.proofs.step.Statement.{statement}
+
+pub step-spec : {M : Type 1} → statement M
+step-spec = ?
