@@ -1,5 +1,4 @@
 -- What a loop over the indices 0, 1, .. keeps from turn to turn, at the code's `i + 1`, and what it has at the end.
--- A search keeps that no index so far passes, by `below-none` and `below-more` of `borrow.Author.Count`, and ends by `first-at` or `first-none`.
 use mathlib.Core.Path.{_≡_, refl, sym, ap, _∙_}
 use mathlib.Core.Bool.{Bool, true, false}
 use mathlib.Core.List.{List}
@@ -14,12 +13,44 @@ use lib.Seq.{getD-set-same, getD-set-other, ext-getD}
 use lib.Signed.{ltZ}
 use Rattle.lines.specs.Sum.{sum, sumℤ}
 use Rattle.lines.specs.Count.{bit, count}
-use Rattle.lines.specs.First.{least-on, least}
+use Rattle.lines.specs.First.{first, any, least-on, least}
 use Rattle.lines.specs.Square.{table, each}
 use Rattle.lines.specs.Sets.{with, those}
-use Rattle.lines.proofs.Tests.{by-cases}
+use Rattle.lines.proofs.Tests.{T-true, by-cases}
+use Rattle.lines.proofs.Firsts.{first-at, first-none, any-yes}
 use Rattle.lines.proofs.Squares.{length-table, table-at, length-each, each-at}
 use Rattle.lines.proofs.Sets.{those-yes, those-no}
+
+-- ---- a search
+
+-- after i turns: no index below i passes
+pub record Missed (b : ℕ → Bool) (i : ℕ) : Type 0 where
+  pub missed : (k : ℕ) → k < i → b k ≡ false
+
+pub missed-none : {b : ℕ → Bool} → Missed b 0
+missed-none = record { missed = below-none _ }
+
+pub missed-more : {b : ℕ → Bool} {i : ℕ} → b i ≡ false → Missed b i → Missed b (i + 1)
+missed-more {b} {i} e m = record { missed = below-more _ i (m .missed) e }
+
+-- the index passes, or the indices are at their end
+pub missed-hit : {b : ℕ → Bool} {i : ℕ} (n : ℕ) → i < n → b i ≡ true → Missed b i → i ≡ first b n
+missed-hit {b} {i} n h e m = sym (first-at b n i h (rw e tt) (λ k l. rw (m .missed k l) tt))
+
+pub missed-all : {b : ℕ → Bool} {i : ℕ} (n : ℕ) → n ≤ i → Missed b i → n ≡ first b n
+missed-all {b} n h m = sym (first-none b n (λ k l. rw (m .missed k (omega arith)) tt))
+
+-- the same, where the code gives the index itself
+pub missed-end : {b : ℕ → Bool} {i : ℕ} (n : ℕ) → i ≤ n → n ≤ i → Missed b i → i ≡ first b n
+missed-end {i = i} n l h m = let e : i ≡ n = omega arith in e ∙ missed-all n h m
+
+-- whether there is one
+pub hit-any : (b : ℕ → Bool) (n i : ℕ) → i < n → b i ≡ true → any b n ≡ true
+hit-any b n i h e = T-true (any b n) (any-yes b n i h (rw e tt))
+
+pub missed-any : {b : ℕ → Bool} {i : ℕ} (n : ℕ) → n ≤ i → Missed b i → any b n ≡ false
+unfolding any
+missed-any n h m = rw (← missed-all n h m) (le-ltb n n (omega arith))
 
 -- ---- a list rewritten from the front, one element a turn
 

@@ -36,6 +36,14 @@ place-in n q h = let p : 0 < n = pos n h in (div-lt-iff-lt-mul p .1 h, mod-lt q 
 pub place-back : (n q : ℕ) → q / n * n + q % n ≡ q
 place-back n q = div-add-mod' q n
 
+-- ---- reads
+
+-- below the length the default does not matter
+pub getD-inside : {A : Type 0} (d e : A) (xs : List A) (i : ℕ) → i < length xs → getD xs i d ≡ getD xs i e
+getD-inside d e [] i h = absurd (omega arith)
+getD-inside d e (x ∷ xs) zero h = refl
+getD-inside d e (x ∷ xs) (suc i) h = getD-inside d e xs i (omega arith)
+
 -- ---- stores
 
 module _ {A : Type 0} (d : A) where

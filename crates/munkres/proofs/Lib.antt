@@ -1,1 +1,6 @@
-
+pub mod Masks
+pub mod Zeros
+pub mod Walk
+pub mod StepLaws
+pub mod GoodLaws
+pub mod Arms

@@ -17,7 +17,7 @@ ghost use Rattle.steps.specs.Outcome.{Outcome, no-run, answer as Outcome·answe
 ghost use Rattle.steps.specs.Promise.{Promise};
 ghost use Rattle.steps.proofs.Runs.{over};
 ghost use Rattle.munkres.specs.Square.{Square, Fit64};
-ghost use Rattle.munkres.specs.Path.{Ends};
+ghost use Rattle.steps.proofs.Path.{Ends};
 ghost use Rattle.munkres.specs.View.{view, view-next, view-verdict, verdict-by, task, buffers};
 ghost use Rattle.munkres.specs.Good.{OneStarARow, Adjusts, Startable, Given, Good, Came};
 use steps::Answer;

@@ -1,19 +1,58 @@
--- Step 5 on the marks: flipping the places of the path moves the rows on it to their primes; the path ends, and has a prime wherever it looks for one.
+-- Step 5 on the marks: flipping the places of the path moves the rows on it to their primes; the path ends in the square, with a prime wherever it looks for one.
 use mathlib.Core.Path.{_≡_, refl, sym, ap, _∙_}
 use mathlib.Core.Logic.{_≢_}
 use mathlib.Core.List.{List, [], _∷_}
 use mathlib.Core.Bool.{Bool, true, false, cond}
 use Prim.Native.Nat.{ℕ, zero, suc, _+_, _*_, _≤_, _<_, min}
 use native.Mathlib.Omega.{arith}
+use borrow.Author.Tests.{lt-ltb, le-ltb}
 use lib.Dec.{ltb, ltb→lt, nltb→le, eqb}
 use lib.ListN.{length, set}
 use Rattle.lines.specs.Square.{cell}
+use Rattle.lines.proofs.Tests.{cond-ind}
 use Rattle.lines.proofs.Puts.{put, put-at}
-use Rattle.lines.proofs.Firsts.{ltb-min}
 use Rattle.steps.specs.Steps.{star-in-column, prime-in-row, path, flip}
 use Rattle.steps.proofs.Matching.{Matching}
 use Rattle.steps.proofs.Flip.{on-path, starred, Walk, walk-on, earlier, star-next}
 use Rattle.steps.proofs.Marks.{Shows, mark-star, mark-prime, show-starred, show-unstarred, find-row, find-prime}
+
+-- ---- the path by what the searches find
+
+module _ (n : ℕ) (marks : List ℕ) where
+  -- the path from (i, j) stays in the square, and ends within k rows
+  abbrev pub Ends : ℕ → ℕ → ℕ → Type 0
+  Ends zero i j = ⊥
+  Ends (suc k) i j =
+      (i < n) × (j < n) × (star-in-column n marks j < n → Ends k (star-in-column n marks j) (prime-in-row n marks (star-in-column n marks j)))
+
+  module _ (k i j : ℕ) where
+    -- its column has no star, or has one
+    pub path-last : n ≤ star-in-column n marks j → path n marks (suc k) i j ≡ (i, j) ∷ []
+    unfolding path
+    path-last h = rw (le-ltb (star-in-column n marks j) n h)
+
+    pub path-more : star-in-column n marks j < n
+        → path n marks (suc k) i j ≡ (i, j) ∷ (star-in-column n marks j, j) ∷ path n marks k (star-in-column n marks j) (prime-in-row n marks (star-in-column n marks j))
+    unfolding path
+    path-more h = rw (lt-ltb (star-in-column n marks j) n h)
+
+-- every place is in the square
+abbrev pub Inside : ℕ → List (ℕ × ℕ) → Type 0
+Inside n [] = Unit
+Inside n (p ∷ ps) = (p .0 < n) × (p .1 < n) × Inside n ps
+
+pub path-inside : (n : ℕ) (marks : List ℕ) (k i j : ℕ) → Ends n marks k i j → Inside n (path n marks k i j)
+unfolding path
+path-inside n marks zero i j e = absurd e
+path-inside n marks (suc k) i j e = (
+  e .0,
+  e .1,
+  cond-ind (Inside n) (ltb (star-in-column n marks j) n) _ _
+      (λ t. let h = ltb→lt (star-in-column n marks j) n t in (h, e .1, path-inside n marks k _ _ (e .2 h)))
+      (λ t. tt),
+)
+
+-- ---- the path by the stars and primes that the marks show
 
 -- The marks as they are when step 5 begins. Each prime has the time at which it was made, and the star in its column is in a row that was primed earlier.
 module _ {n : ℕ} {star₀ prime : ℕ → ℕ} {marks₀ : List ℕ} (shown : Shows n star₀ prime marks₀) (time row₀ : ℕ → ℕ) (matching : Matching n star₀ row₀)
@@ -40,23 +79,24 @@ module _ {n : ℕ} {star₀ prime : ℕ → ℕ} {marks₀ : List ℕ} (shown : 
   -- the rest of the path from row r, by the functions
   path-on : (k r : ℕ) → r < n → prime r < n → row₀ (prime r) < n
       → path n marks₀ (suc k) r (prime r) ≡ (r, prime r) ∷ (row₀ (prime r), prime r) ∷ path n marks₀ k (row₀ (prime r)) (prime (row₀ (prime r)))
-  unfolding path
-  path-on k r hr hp h = go (ltb (row₀ (prime r)) n) refl
-    where
-      o : star-in-column n marks₀ (prime r) ≡ row₀ (prime r)
-      o = found-row r hp ∙ (omega arith)
-
-      go : (x : Bool) → ltb (row₀ (prime r)) n ≡ x → path n marks₀ (suc k) r (prime r) ≡ (r, prime r) ∷ (row₀ (prime r), prime r) ∷ path n marks₀ k (row₀ (prime r)) (prime (row₀ (prime r)))
-      go true e = rw (o, e, found-prime (row₀ (prime r)) h (chain r hr hp h .0))
-      go false e = absurd (omega (arith, nltb→le (row₀ (prime r)) n (rw e tt)))
+  path-on k r hr hp h =
+      let o : star-in-column n marks₀ (prime r) ≡ row₀ (prime r) = found-row r hp ∙ (omega arith) in
+      rw (o, found-prime (row₀ (prime r)) h (chain r hr hp h .0)) at (path-more n marks₀ k r (prime r) (rw o h))
 
   path-end : (k r : ℕ) → prime r < n → n ≤ row₀ (prime r) → path n marks₀ (suc k) r (prime r) ≡ (r, prime r) ∷ []
-  unfolding path
-  path-end k r hp h = go (ltb (star-in-column n marks₀ (prime r)) n) refl
-    where
-      go : (x : Bool) → ltb (star-in-column n marks₀ (prime r)) n ≡ x → path n marks₀ (suc k) r (prime r) ≡ (r, prime r) ∷ []
-      go true e = absurd (omega (arith, found-row r hp, ltb→lt (star-in-column n marks₀ (prime r)) n (rw e tt)))
-      go false e = rw e
+  path-end k r hp h = path-last n marks₀ k r (prime r) (omega (arith, found-row r hp))
+
+  -- the times fall along the path
+  pub path-ends : (k r : ℕ) → r < n → prime r < n → time r < k → Ends n marks₀ k r (prime r)
+  path-ends zero r hr hp l = omega arith
+  path-ends (suc k) r hr hp l = (
+    hr,
+    hp,
+    λ h.
+        let o : star-in-column n marks₀ (prime r) ≡ row₀ (prime r) = found-row r hp ∙ (omega (arith, found-row r hp)) in
+        let q = chain r hr hp (omega arith) in
+        rw (o, found-prime (row₀ (prime r)) (omega arith) (q .0)) (path-ends k (row₀ (prime r)) (omega arith) (q .0) (omega (arith, q .1))),
+  )
 
   -- flipping the places is moving the rows to their primes
   pub show-flip : (k : ℕ) (star row : ℕ → ℕ) (r : ℕ) (marks : List ℕ) → time r < k → Walk n prime time row₀ chain star row r → Shows n (put star r n) prime marks

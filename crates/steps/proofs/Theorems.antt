@@ -28,7 +28,7 @@ use Rattle.steps.proofs.Shape.{Shape, shape-start, shape-step}
 use Rattle.steps.proofs.Start.{sound-start}
 use Rattle.steps.proofs.Ends.{paired}
 use Rattle.steps.proofs.Marks.{find-prime}
-use Rattle.steps.proofs.Path.{star-off, path-length, prime-there}
+use Rattle.steps.proofs.Path.{Ends, star-off, path-length, path-ends, prime-there}
 use Rattle.steps.proofs.Search.{Sound, Sound-at, sound-step, Ready, time′, prime′, chained, early, at-prime}
 use Rattle.steps.proofs.Budget.{Spent, spent, spent-start}
 use Rattle.steps.proofs.Counted.{Counted, counted}
@@ -40,7 +40,7 @@ use Rattle.steps.proofs.Answers as A
 use Rattle.steps.proofs.Answers.{reached, EachSameOrUntouched, PairedAllowed}
 use Rattle.steps.proofs.Promised.{promised}
 
--- ---- the path of step 5: at most 2 n - 1 places, and a prime wherever one is looked for
+-- ---- the path of step 5: at most 2 n - 1 places, all in the square, and a prime wherever one is looked for
 
 module _ (n : ℕ) (ok : ℕ → ℕ → Bool) {working : List ℤ} {marks : List ℕ} {rows columns i j : ℕ} (s : Ready n ok working marks rows columns i j) where
   pub path-fits : length (path n marks n i j) ≤ 2 * n - 1
@@ -48,6 +48,11 @@ module _ (n : ℕ) (ok : ℕ → ℕ → Bool) {working : List ℤ} {marks : Lis
       let h = path-length s.shows (time′ n ok s) s.row (s .phase .matching) (chained n ok s) n i (s .last .row-below) (rw (at-prime n ok s) (s .last .column-below)) in
       let l : length (path n marks n i j) ≤ 2 * time′ n ok s i + 1 = rw (at-prime n ok s) at h in
       omega (arith, early n ok s)
+
+  pub ready-ends : Ends n marks n i j
+  ready-ends =
+      let p : prime′ n ok s i < n = rw (at-prime n ok s) (s .last .column-below) in
+      rw (at-prime n ok s) at (path-ends s.shows (time′ n ok s) s.row (s .phase .matching) (chained n ok s) n i (s .last .row-below) p (early n ok s))
 
   pub prime-always : (r : ℕ) → r < n → prime-in-row n marks r < n → star-in-column n marks (prime-in-row n marks r) < n
       → prime-in-row n marks (star-in-column n marks (prime-in-row n marks r)) < n

@@ -1,5 +1,138 @@
--- HOLE
+use borrow.Author.Needs.{needs}
 use Rattle.munkres.proofs.finish.Statement.{statement}
+use Rattle.munkres.proofs.finish.Tie as tie
+use Rattle.munkres.proofs.finish.Reads as reads
+use Rattle.munkres.proofs.finish.Lts as lts
+use Rattle.munkres.proofs.answer.Reads as answer-reads
+use Rattle.munkres.proofs.choose_columns.Reads as choose-columns-reads
+use Rattle.munkres.proofs.coverage.uncovered_lines.Reads as uncovered-lines-reads
+
+-- src/lib.rt:388:57
+enum-told : tie.Need-enum-told
+enum-told c = search needs
+
+-- src/lib.rt:388:17
+choose-columns-requires : tie.Need-choose-columns-requires
+choose-columns-requires c κs = ?
+
+-- src/lib.rt:389:13
+answer-requires : tie.Need-answer-requires
+answer-requires c κs = search needs
+
+-- src/lib.rt:392:17
+enum-told-2 : tie.Need-enum-told-2
+enum-told-2 c = search needs
+
+-- src/lib.rt:394:31
+uncovered-lines-requires : tie.Need-uncovered-lines-requires
+uncovered-lines-requires c κs = search needs
+
+-- src/lib.rt:394:67
+uncovered-lines-requires-2 : tie.Need-uncovered-lines-requires-2
+uncovered-lines-requires-2 c κs = search needs
+
+-- src/lib.rt:394:13
+answer-requires-2 : tie.Need-answer-requires-2
+answer-requires-2 c κs = search needs
+
+-- src/lib.rt:396:29
+enum-told-3 : tie.Need-enum-told-3
+enum-told-3 c = search needs
+
+-- src/lib.rt:396:29
+answer-requires-3 : tie.Need-answer-requires-3
+answer-requires-3 c κs = search needs
+
+-- src/lib.rt:397:24
+enum-told-4 : tie.Need-enum-told-4
+enum-told-4 c = search needs
+
+-- src/lib.rt:397:24
+answer-requires-4 : tie.Need-answer-requires-4
+answer-requires-4 c κs = search needs
+
+-- src/lib.rt:398:24
+enum-told-5 : tie.Need-enum-told-5
+enum-told-5 c = search needs
+
+-- src/lib.rt:398:24
+answer-requires-5 : tie.Need-answer-requires-5
+answer-requires-5 c κs = search needs
+
+-- src/lib.rt:399:30
+enum-told-6 : tie.Need-enum-told-6
+enum-told-6 c = search needs
+
+-- src/lib.rt:399:30
+answer-requires-6 : tie.Need-answer-requires-6
+answer-requires-6 c κs = search needs
+
+-- src/lib.rt:400:24
+enum-told-7 : tie.Need-enum-told-7
+enum-told-7 c = search needs
+
+-- src/lib.rt:400:24
+answer-requires-7 : tie.Need-answer-requires-7
+answer-requires-7 c κs = search needs
+
+-- src/lib.rt:380:1
+same-length : tie.Need-same-length
+same-length c = search needs
+
+-- src/lib.rt:380:1
+returns : tie.Need-returns
+returns c = ?
+
+-- src/lib.rt:380:1
+returns-2 : tie.Need-returns-2
+returns-2 c = ?
+
+-- src/lib.rt:380:1
+returns-3 : tie.Need-returns-3
+returns-3 c = ?
+
+-- src/lib.rt:380:1
+returns-4 : tie.Need-returns-4
+returns-4 c = ?
+
+-- src/lib.rt:380:1
+returns-5 : tie.Need-returns-5
+returns-5 c = ?
+
+-- src/lib.rt:380:1
+returns-6 : tie.Need-returns-6
+returns-6 c = ?
+
+-- src/lib.rt:380:1
+returns-7 : tie.Need-returns-7
+returns-7 c = ?
 
 pub finish-spec : {M : Type 1} → statement M
-finish-spec = ?
+finish-spec =
+    tie.close
+    (tie.spec
+    enum-told
+    choose-columns-requires
+    answer-requires
+    enum-told-2
+    uncovered-lines-requires
+    uncovered-lines-requires-2
+    answer-requires-2
+    enum-told-3
+    answer-requires-3
+    enum-told-4
+    answer-requires-4
+    enum-told-5
+    answer-requires-5
+    enum-told-6
+    answer-requires-6
+    enum-told-7
+    answer-requires-7
+    same-length
+    returns
+    returns-2
+    returns-3
+    returns-4
+    returns-5
+    returns-6
+    returns-7)

@@ -1,0 +1,51 @@
+-- What a mask byte that the code reads says of its cell. Past the end the code's reading is 0, and the definitions' is 1.
+use mathlib.Core.Path.{_≡_}
+use mathlib.Core.Bool.{true, false, and-false}
+use mathlib.Core.List.{List}
+use Prim.Native.Nat.{ℕ, _+_, _*_, _≤_, _<_}
+use borrow.Author.Tests.{eq-eqb, ne-eqb, lt-ltb, le-ltb}
+use lib.Dec.{eqb}
+use lib.IntN.{ℤ, pos}
+use lib.ListN.{length, getD}
+use Rattle.lines.proofs.Squares.{getD-inside}
+use Rattle.steps.specs.Lent.{allows}
+use Rattle.steps.specs.Refusal.{bad-mask, out-of-range, bad-cost}
+
+module _ (mask : List ℕ) (q : ℕ) (h : q < length mask) where
+  byte : getD mask q 1 ≡ getD mask q 0
+  byte = getD-inside 1 0 mask q h
+
+  one : getD mask q 0 ≡ 1 → eqb (getD mask q 1) 1 ≡ true
+  one e = rw byte (eq-eqb _ 1 e)
+
+  other : (getD mask q 0 ≡ 1 → ⊥) → eqb (getD mask q 1) 1 ≡ false
+  other ne = rw byte (ne-eqb _ 1 ne)
+
+  pub mask-bad : 1 < getD mask q 0 → bad-mask mask q ≡ true
+  unfolding bad-mask
+  mask-bad l = rw byte (lt-ltb 1 _ l)
+
+  pub mask-good : getD mask q 0 ≤ 1 → bad-mask mask q ≡ false
+  unfolding bad-mask
+  mask-good l = rw byte (le-ltb 1 _ l)
+
+  pub cost-bad : (costs : List ℤ) → getD mask q 0 ≡ 1 → out-of-range (getD costs q (pos 0)) ≡ true → bad-cost costs mask q ≡ true
+  unfolding bad-cost
+  cost-bad costs e b = rw (one e, b)
+
+  pub cost-unread : (costs : List ℤ) → (getD mask q 0 ≡ 1 → ⊥) → bad-cost costs mask q ≡ false
+  unfolding bad-cost
+  cost-unread costs ne = rw (other ne)
+
+pub cost-good : (costs : List ℤ) (mask : List ℕ) (q : ℕ) → out-of-range (getD costs q (pos 0)) ≡ false → bad-cost costs mask q ≡ false
+unfolding bad-cost
+cost-good costs mask q b = rw (b, and-false)
+
+module _ (n : ℕ) (mask : List ℕ) (i j : ℕ) (h : i * n + j < length mask) where
+  pub allows-yes : getD mask (i * n + j) 0 ≡ 1 → allows n mask i j ≡ true
+  unfolding allows
+  allows-yes = one mask (i * n + j) h
+
+  pub allows-no : (getD mask (i * n + j) 0 ≡ 1 → ⊥) → allows n mask i j ≡ false
+  unfolding allows
+  allows-no = other mask (i * n + j) h

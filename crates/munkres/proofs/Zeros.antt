@@ -1,0 +1,45 @@
+-- What the code sees of zeros, as the definitions have it: of one cell, of a column, and the first uncovered one.
+use mathlib.Core.Path.{_≡_, refl, sym, _∙_}
+use mathlib.Core.Bool.{Bool, true, false, not, _&&_, and-true, and-false}
+use mathlib.Core.List.{List}
+use Prim.Native.Nat.{ℕ, suc, _-_, _^_, _≤_, _<_}
+use native.Mathlib.Omega.{arith}
+use borrow.Author.Tests.{ne-eqb, lt-ltb, le-ltb}
+use lib.Dec.{eqb, ltb}
+use lib.IntN.{ℤ, pos, negsuc}
+use mir.Syntax.{w64}
+use mir.Val.{SFits, ofZ}
+use Rattle.lines.specs.First.{first}
+use Rattle.lines.specs.Sets.{has}
+use Rattle.lines.proofs.Firsts.{first-ext, first-none}
+use Rattle.lines.proofs.Loops.{Missed, missed-hit, missed-all}
+use Rattle.steps.specs.Steps.{is-zero, zero-at, uncovered, zero-in-column, zero-column}
+use Rattle.munkres.specs.declared.coverage.Cell.the-variants.{At, Nothing}
+use Rattle.munkres.specs.Cell.{found-zero}
+
+-- a signed number is compared with 0 by its bits
+pub zero-bits : (z : ℤ) → SFits w64 z → eqb (ofZ w64 z) 0 ≡ is-zero z
+unfolding is-zero
+zero-bits (pos n) f = refl
+zero-bits (negsuc n) f = let h = f .sfits in ne-eqb (2 ^ 64 - suc n) 0 (λ e. omega arith)
+
+module _ (n : ℕ) (ok : ℕ → ℕ → Bool) (working : List ℤ) (rows columns : ℕ) where
+  -- in an uncovered column the rows alone matter, and in a covered one there is nothing
+  pub open-column : {i : ℕ} (j : ℕ) → has columns j ≡ false → i ≡ first (λ i. not (has rows i) && zero-at n ok working i j) n
+      → zero-in-column n ok working rows columns j ≡ i
+  unfolding zero-in-column uncovered
+  open-column j e f = first-ext _ _ n (λ i h. rw (e, and-true)) ∙ sym f
+
+  pub covered-column : (j : ℕ) → has columns j ≡ true → ltb (zero-in-column n ok working rows columns j) n ≡ false
+  unfolding zero-in-column uncovered
+  covered-column j e = let none : zero-in-column n ok working rows columns j ≡ n = first-none _ n (λ i h. rw (e, and-false) tt) in le-ltb _ n (omega arith)
+
+  -- column j is the first that has one, in row i; or none has
+  pub found-at : {i j : ℕ} → j < n → i < n → zero-in-column n ok working rows columns j ≡ i
+      → Missed (λ j. ltb (zero-in-column n ok working rows columns j) n) j → At i j ≡ found-zero n ok working rows columns
+  unfolding found-zero zero-column
+  found-at {i} {j} h l e m = rw (← missed-hit n h (rw e (lt-ltb i n l)) m, lt-ltb j n h, e)
+
+  pub found-none : {j : ℕ} → n ≤ j → Missed (λ j. ltb (zero-in-column n ok working rows columns j) n) j → Nothing ≡ found-zero n ok working rows columns
+  unfolding found-zero zero-column
+  found-none h m = rw (← missed-all n h m, le-ltb n n (omega arith))
