@@ -23,3 +23,4 @@ pub mod Limited
 pub mod Ends
 pub mod Promised
 pub mod Theorems
+pub mod Samples

@@ -5,3 +5,4 @@ pub mod Counts
 pub mod Outcome
 pub mod Promise
 pub mod Samples
+pub mod FurtherSamples
