@@ -9,6 +9,9 @@ use native.Mathlib.Omega.{arith}
 use lib.Dec.{T, not-T, ltb, ltb→lt, lt→ltb, nltb→le, eqb}
 use lib.IntN.{ℤ, pos}
 use lib.ListN.{getD, set}
+use mir.Syntax.{w64}
+use mir.Val.{SFits, toZ, ofZ}
+use mir.Facts.{toZ-ofZ}
 use Rattle.lines.specs.Sets.{with, without}
 use Rattle.lines.proofs.Tests.{T-true, T-false, eqb-no, eqb-yes}
 use Rattle.lines.proofs.Squares.{place-lt}
@@ -18,6 +21,10 @@ use Rattle.steps.proofs.Turns.{zero-found}
 use Rattle.munkres.specs.declared.coverage.Cell.{Cell}
 use Rattle.munkres.specs.declared.coverage.Cell.the-variants.{At, Nothing}
 use Rattle.munkres.specs.Cell.{found-zero}
+
+-- a number that fits is read back from its bits
+pub back : (z y : ℤ) → z ≡ y → SFits w64 y → toZ w64 (ofZ w64 z) ≡ y
+back z y e h = rw e (toZ-ofZ h)
 
 module _ (n : ℕ) (ok : ℕ → ℕ → Bool) (working : List ℤ) (r : Run) where
   -- ---- step 4

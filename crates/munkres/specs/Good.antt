@@ -7,6 +7,8 @@ use Prim.Native.Nat.{ℕ, _+_, _*_, _≤_, _<_}
 use lib.Dec.{T}
 use lib.IntN.{ℤ, pos}
 use lib.ListN.{length, getD}
+use mir.Syntax.{w64}
+use mir.Val.{SFits}
 use Rattle.lines.specs.First.{any}
 use Rattle.lines.specs.Sets.{rest}
 use Rattle.lines.specs.Square.{cell, table}
@@ -25,12 +27,12 @@ use Rattle.munkres.specs.Square.{Fit64}
 abbrev pub OneStarARow : ℕ → List ℕ → Type 0
 OneStarARow n marks = (i j : ℕ) → i < n → j < n → cell 0 n marks i j ≡ 1 → star-in-row n marks i ≡ j
 
--- where step 6 has a minimum to adjust by, what it writes fits 64 bits
+-- where step 6 has a minimum to adjust by, it and what is written fit 64 bits
 abbrev pub Adjusts : (n : ℕ) → (ℕ → ℕ → Bool) → ℕ → Run → List ℤ → List ℤ → List ℤ → Type 0
 Adjusts n ok budget r working row-prices column-prices =
     r .adjustments ≢ budget → lowest n ok working (r .rows) (r .columns) < n * n
     → let z = getD working (lowest n ok working (r .rows) (r .columns)) (pos 0) in
-    Fit64 (followed n ok z (r .rows) (r .columns) working) × Fit64 (lowered z (r .rows) row-prices) × Fit64 (raised z (r .columns) column-prices)
+    SFits w64 z × Fit64 (followed n ok z (r .rows) (r .columns) working) × Fit64 (lowered z (r .rows) row-prices) × Fit64 (raised z (r .columns) column-prices)
 
 -- what steps 1 and 2 ask: every row has an allowed cell
 abbrev pub Startable : ℕ → List ℤ → List ℕ → Type 0

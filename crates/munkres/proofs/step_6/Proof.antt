@@ -1,3 +1,9 @@
+use native.Mathlib.Omega.{arith}
+use mathlib.Core.Path.{sym, _∙_}
+use Rattle.steps.specs.Steps.{lowest}
+use Rattle.munkres.specs.View.{view}
+use Rattle.munkres.proofs.Values.{value-found, value-none}
+use Rattle.munkres.proofs.StepLaws.{back, step6-none, step6-spent, step6-adjusts}
 use borrow.Author.Needs.{needs}
 use Rattle.munkres.proofs.step_6.Statement.{statement}
 use Rattle.munkres.proofs.step_6.Tie as tie
@@ -26,20 +32,36 @@ same-length c = search needs
 
 -- src/lib.rt:238:17
 returns : tie.Need-returns
+unfolding lowest
 returns c = 
-    step6-spent (c .before .before .before .before .before .before .before .args .n) _ _ (view (c .before .before .before .before .before .before .before .args .run)) _ _ _ (least-value (sym (c .before .before .before .before .least-uncovered .ensures) ∙ c .before .before .least .given .1) .0) (c .if1 .taken)
+    step6-spent (c .before .before .before .before .before .before .before .args .n) _ _ (view (c .before .before .before .before .before .before .before .args .run)) _ _ _ (value-found _ _ _ _ (sym (c .before .before .before .before .least-uncovered .ensures) ∙ c .before .before .least .given .1) .0) (c .if1 .taken)
 
 -- src/lib.rt:247:13
 follow-prices-requires : tie.Need-follow-prices-requires
-follow-prices-requires c κs = ?
+unfolding lowest
+follow-prices-requires c κs = 
+    let v = value-found _ _ _ _ (sym (c .before .before .before .before .before .least-uncovered .ensures) ∙ c .before .before .before .least .given .1) in
+    let a = c .before .before .before .before .before .before .before .before .pre .5 (c .before .if1 .left) (v .0) in
+    let e = back _ _ (v .1) (a .0) in
+    (c .before .before .before .before .before .before .before .before .pre .0, c .before .before .before .before .before .before .before .before .pre .1, rw e (a .0), rw e (a .1))
 
 -- src/lib.rt:248:13
 lower-prices-requires : tie.Need-lower-prices-requires
-lower-prices-requires c κs = ?
+unfolding lowest
+lower-prices-requires c κs = 
+    let v = value-found _ _ _ _ (sym (c .before .before .before .before .before .before .before .before .least-uncovered .ensures) ∙ c .before .before .before .before .before .before .least .given .1) in
+    let a = c .before .before .before .before .before .before .before .before .before .before .before .pre .5 (c .before .before .before .before .if1 .left) (v .0) in
+    let e = back _ _ (v .1) (a .0) in
+    (omega (arith, c .before .before .before .before .before .before .before .before .before .before .before .pre .2, c .before .before .before .before .before .before .before .before .before .before .before .pre .0 .small), rw e (a .0), rw e (a .2))
 
 -- src/lib.rt:249:13
 raise-prices-requires : tie.Need-raise-prices-requires
-raise-prices-requires c κs = ?
+unfolding lowest
+raise-prices-requires c κs = 
+    let v = value-found _ _ _ _ (sym (c .before .before .before .before .before .before .before .before .before .before .before .least-uncovered .ensures) ∙ c .before .before .before .before .before .before .before .before .before .least .given .1) in
+    let a = c .before .before .before .before .before .before .before .before .before .before .before .before .before .before .pre .5 (c .before .before .before .before .before .before .before .if1 .left) (v .0) in
+    let e = back _ _ (v .1) (a .0) in
+    (omega (arith, c .before .before .before .before .before .before .before .before .before .before .before .before .before .before .pre .3, c .before .before .before .before .before .before .before .before .before .before .before .before .before .before .pre .0 .small), rw e (a .0), rw e (a .3))
 
 -- src/lib.rt:253:30
 add-t26 : tie.Need-add-t26
@@ -51,8 +73,9 @@ same-length-2 c = search needs
 
 -- src/lib.rt:217:1
 returns-2 : tie.Need-returns-2
+unfolding lowest
 returns-2 c = 
-    step6-none (c .before .before .before .before .before .args .n) _ _ (view (c .before .before .before .before .before .args .run)) _ _ _ (least-nothing (sym (c .before .before .least-uncovered .ensures) ∙ c .enum-told .given .1))
+    step6-none (c .before .before .before .before .before .args .n) _ _ (view (c .before .before .before .before .before .args .run)) _ _ _ (value-none _ _ _ (sym (c .before .before .least-uncovered .ensures) ∙ c .enum-told .given .1))
 
 -- src/lib.rt:217:1
 same-length-3 : tie.Need-same-length-3
@@ -68,7 +91,12 @@ same-length-5 c = search needs
 
 -- src/lib.rt:217:1
 returns-3 : tie.Need-returns-3
-returns-3 c = ?
+unfolding lowest
+returns-3 c = 
+    let v = value-found _ _ _ _ (sym (c .before .before .before .before .before .before .before .before .before .before .before .before .before .least-uncovered .ensures) ∙ c .before .before .before .before .before .before .before .before .before .before .before .least .given .1) in
+    let a = c .before .before .before .before .before .before .before .before .before .before .before .before .before .before .before .before .pre .5 (c .before .before .before .before .before .before .before .before .before .if1 .left) (v .0) in
+    let e = back _ _ (v .1) (a .0) in
+    step6-adjusts (c .before .before .before .before .before .before .before .before .before .before .before .before .before .before .before .before .args .n) _ _ (view (c .before .before .before .before .before .before .before .before .before .before .before .before .before .before .before .before .args .run)) _ _ _ (v .0) _ _ _ _ e (c .before .before .before .before .before .before .before .before .before .if1 .left) (c .before .before .before .before .before .before .before .follow-prices .ensures) (c .before .before .before .before .lower-prices .ensures) (c .before .raise-prices .ensures)
 
 pub step-6-spec : {M : Type 1} → statement M
 step-6-spec =
