@@ -113,8 +113,7 @@ module _ {n : ℕ} {mask : List ℕ} {budget : ℕ} {m : Machine} (g : Good n ma
       let to = adjusts-to e ne h in
       let next = rw to at good-step in
       let now = limits n ok (g .cost) (g .range) m (g .some) (g .fresh .sound) (g .fresh .priced) (g .limited) in
-      let l = limits n ok (next .cost) (next .range) _ (next .some) (next .fresh .sound) (next .fresh .priced) (next .limited) in
-      (
+      let l = limits n ok (next .cost) (next .range) _ (next .some) (next .fresh .sound) (next .fresh .priced) (next .limited) in (
         within-fits w64 (now .working _ h) small,
         λ q hq. within-fits w64 (l .working q (omega (arith, next .fresh .shape .working))) small,
         λ i hi. within-fits w64 (l .row-prices i (omega (arith, next .fresh .shape .row-prices))) small,

@@ -6,3 +6,4 @@ pub mod Walk
 pub mod StepLaws
 pub mod GoodLaws
 pub mod Arms
+pub mod CallLaws

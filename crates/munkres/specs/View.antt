@@ -36,8 +36,7 @@ abbrev pub buffers : List ℤ → List ℕ → List ℕ → List ℤ → List �
 buffers working marks columns row-prices column-prices =
     record { working = working; marks = marks; columns = columns; row-prices = row-prices; column-prices = column-prices }
 
--- the verdict on what is lent, of which the written buffers matter by their lengths alone
-abbrev pub verdict-by : ℕ → List ℤ → List ℕ → ℕ → ℕ → ℕ → ℕ → ℕ → R.Verdict
-verdict-by n costs mask working marks columns row-prices column-prices =
-    R.verdict (task n costs mask 0) 64
-    (buffers (replicate working (pos 0)) (replicate marks 0) (replicate columns 0) (replicate row-prices (pos 0)) (replicate column-prices (pos 0)))
+-- of the written buffers only the lengths matter to the verdict: any buffers of these lengths
+abbrev pub lent : ℕ → ℕ → ℕ → ℕ → ℕ → Buffers
+lent working marks columns row-prices column-prices =
+    buffers (replicate working (pos 0)) (replicate marks 0) (replicate columns 0) (replicate row-prices (pos 0)) (replicate column-prices (pos 0))

@@ -9,7 +9,7 @@ ghost use Rattle.lines.specs.First.{first};
 ghost use Rattle.lines.specs.Sets.{has};
 ghost use Rattle.lines.specs.Square.{table, square};
 ghost use Rattle.steps.specs.Lent.{allows, cost-at};
-ghost use Rattle.steps.specs.Refusal.{accepted, verdict};
+ghost use Rattle.steps.specs.Refusal.{accepted, lengths, verdict};
 ghost use Rattle.steps.specs.Steps.{Paired, machine, star-in-row, zero-at, step2, step3, step4, step5, step6, step as Steps·step, start as Steps·start};
 ghost use Rattle.assignment.specs.Problem.{total};
 ghost use Rattle.lines.proofs.Signed.{Within};
@@ -18,7 +18,7 @@ ghost use Rattle.steps.specs.Promise.{Promise};
 ghost use Rattle.steps.proofs.Runs.{over};
 ghost use Rattle.munkres.specs.Square.{Square, Fit64};
 ghost use Rattle.steps.proofs.Path.{Ends};
-ghost use Rattle.munkres.specs.View.{view, view-next, view-verdict, verdict-by, task, buffers};
+ghost use Rattle.munkres.specs.View.{view, view-next, view-verdict, task, buffers, lent};
 ghost use Rattle.munkres.specs.Good.{OneStarARow, Adjusts, Startable, Given, Good, Came};
 use steps::Answer;
 
@@ -214,7 +214,15 @@ fn step_5(n: usize, run: Run, row: usize, column: usize, marks: &mut [u8]) -> Ru
 }
 
 // By the least uncovered value, covered rows become cheaper and uncovered columns dearer.
-fn step_6(n: usize, mask: &[u8], budget: u32, run: Run, working: &mut [i64], row_prices: &mut [i64], column_prices: &mut [i64]) -> Run
+fn step_6(
+    n: usize,
+    mask: &[u8],
+    budget: u32,
+    run: Run,
+    working: &mut [i64],
+    row_prices: &mut [i64],
+    column_prices: &mut [i64],
+) -> Run
     requires { ⌜ Square n (now mask) × Square n (now working) × (length (now «row_prices») ≡ n) × (length (now «column_prices») ≡ n) × (run .adjustments ≤ budget)
         × Adjusts n (allows n (now mask)) budget (view run) (now working) (now «row_prices») (now «column_prices») ⌝ }
     ensures { λ r. ⌜ (view r, now (working .exit), now («row_prices» .exit), now («column_prices» .exit))
@@ -259,7 +267,16 @@ fn step_6(n: usize, mask: &[u8], budget: u32, run: Run, working: &mut [i64], row
     }
 }
 
-fn step(n: usize, mask: &[u8], budget: u32, run: Run, working: &mut [i64], marks: &mut [u8], row_prices: &mut [i64], column_prices: &mut [i64]) -> Run
+fn step(
+    n: usize,
+    mask: &[u8],
+    budget: u32,
+    run: Run,
+    working: &mut [i64],
+    marks: &mut [u8],
+    row_prices: &mut [i64],
+    column_prices: &mut [i64],
+) -> Run
     requires { ⌜ Good n (now mask) budget (machine (view run) (now working) (now marks) (now «row_prices») (now «column_prices»)) ⌝ }
     ensures { λ r. ⌜ machine (view r) (now (working .exit)) (now (marks .exit)) (now («row_prices» .exit)) (now («column_prices» .exit))
         ≡ Steps·step n (allows n (now (mask .entry))) budget (machine (view run) (now (working .entry)) (now (marks .entry)) (now («row_prices» .entry)) (now («column_prices» .entry))) ⌝ }
@@ -291,7 +308,16 @@ fn is_over(next: Next) -> bool
 }
 
 // Step after step, until an end.
-fn run_steps(n: usize, mask: &[u8], budget: u32, run: Run, working: &mut [i64], marks: &mut [u8], row_prices: &mut [i64], column_prices: &mut [i64]) -> Run
+fn run_steps(
+    n: usize,
+    mask: &[u8],
+    budget: u32,
+    run: Run,
+    working: &mut [i64],
+    marks: &mut [u8],
+    row_prices: &mut [i64],
+    column_prices: &mut [i64],
+) -> Run
     requires { ⌜ Good n (now mask) budget (machine (view run) (now working) (now marks) (now «row_prices») (now «column_prices»)) ⌝ }
     ensures { λ r. ⌜ Came n (now (mask .entry)) budget (machine (view run) (now (working .entry)) (now (marks .entry)) (now («row_prices» .entry)) (now («column_prices» .entry)))
         (machine (view r) (now (working .exit)) (now (marks .exit)) (now («row_prices» .exit)) (now («column_prices» .exit))) ⌝ }
@@ -302,14 +328,31 @@ fn run_steps(n: usize, mask: &[u8], budget: u32, run: Run, working: &mut [i64], 
         if is_over(next) {
             return state;
         }
-        state = step(n, mask, budget, state, working, marks, row_prices, column_prices);
+        state = step(
+            n,
+            mask,
+            budget,
+            state,
+            working,
+            marks,
+            row_prices,
+            column_prices,
+        );
     }
 }
 
 // ---- the call
 
 // Steps 1 and 2.
-fn start(n: usize, costs: &[i32], mask: &[u8], working: &mut [i64], marks: &mut [u8], row_prices: &mut [i64], column_prices: &mut [i64]) -> Run
+fn start(
+    n: usize,
+    costs: &[i32],
+    mask: &[u8],
+    working: &mut [i64],
+    marks: &mut [u8],
+    row_prices: &mut [i64],
+    column_prices: &mut [i64],
+) -> Run
     requires { ⌜ Square n (now costs) × Square n (now mask) × Square n (now working) × Square n (now marks) × (length (now «row_prices») ≡ n) × (length (now «column_prices») ≡ n)
         × Startable n (now costs) (now mask) ⌝ }
     ensures { λ r. ⌜ machine (view r) (now (working .exit)) (now (marks .exit)) (now («row_prices» .exit)) (now («column_prices» .exit))
@@ -391,7 +434,13 @@ fn finish(n: usize, costs: &[i32], run: Run, marks: &[u8], columns: &mut [u16]) 
         Next::NoPairing => {
             let rows = run.rows;
             let lines = run.columns;
-            answer(6, 0, run, coverage::uncovered_lines(n, rows), coverage::uncovered_lines(n, lines))
+            answer(
+                6,
+                0,
+                run,
+                coverage::uncovered_lines(n, rows),
+                coverage::uncovered_lines(n, lines),
+            )
         }
         Next::Unfinished => answer(7, 0, run, 0, 0),
         Next::Step3 => answer(0, 0, run, 0, 0),
@@ -419,8 +468,53 @@ fn solve(
         (buffers (now (working .exit)) (now (marks .exit)) (now (columns .exit)) (now («row_prices» .exit)) (now («column_prices» .exit))) ⌝ }
 {
     let begun = start(n, costs, mask, working, marks, row_prices, column_prices);
-    let ended = run_steps(n, mask, budget, begun, working, marks, row_prices, column_prices);
+    let ended = run_steps(
+        n,
+        mask,
+        budget,
+        begun,
+        working,
+        marks,
+        row_prices,
+        column_prices,
+    );
     finish(n, costs, ended, marks, columns)
+}
+
+// Has every buffer exactly its length?
+fn has_lengths(
+    n: usize,
+    costs: &[i32],
+    mask: &[u8],
+    working: usize,
+    marks: usize,
+    columns: usize,
+    row_prices: usize,
+    column_prices: usize,
+) -> bool
+    requires { ⌜ n ≤ 64 ⌝ }
+    ensures { λ r. ⌜ r ≡ lengths (task n (now (costs .entry)) (now (mask .entry)) 0) (lent working marks columns «row_prices» «column_prices») ⌝ }
+{
+    let cells = n * n;
+    if costs.len() != cells {
+        return false;
+    }
+    if mask.len() != cells {
+        return false;
+    }
+    if working != cells {
+        return false;
+    }
+    if marks != cells {
+        return false;
+    }
+    if columns != n {
+        return false;
+    }
+    if row_prices != n {
+        return false;
+    }
+    column_prices == n
 }
 
 // Rules 1 to 5 in their order, then the row test.
@@ -434,7 +528,7 @@ fn judge(
     row_prices: usize,
     column_prices: usize,
 ) -> Verdict
-    ensures { λ r. ⌜ view-verdict r ≡ verdict-by n (now (costs .entry)) (now (mask .entry)) working marks columns «row_prices» «column_prices» ⌝ }
+    ensures { λ r. ⌜ view-verdict r ≡ verdict (task n (now (costs .entry)) (now (mask .entry)) 0) 64 (lent working marks columns «row_prices» «column_prices») ⌝ }
 {
     if n == 0 {
         return Verdict::Refused(1, 0);
@@ -442,16 +536,24 @@ fn judge(
     if 64 < n {
         return Verdict::Refused(2, 0);
     }
-    let cells = n * n;
-    if costs.len() != cells || mask.len() != cells || working != cells || marks != cells || columns != n || row_prices != n || column_prices != n {
+    if !has_lengths(
+        n,
+        costs,
+        mask,
+        working,
+        marks,
+        columns,
+        row_prices,
+        column_prices,
+    ) {
         return Verdict::Refused(3, 0);
     }
     let bad_mask = refusal::find_bad_mask(mask);
-    if bad_mask < cells {
+    if bad_mask < mask.len() {
         return Verdict::Refused(4, bad_mask);
     }
     let bad_cost = refusal::find_bad_cost(costs, mask);
-    if bad_cost < cells {
+    if bad_cost < mask.len() {
         return Verdict::Refused(5, bad_cost);
     }
     let dead = refusal::find_dead_row(n, mask);
@@ -477,10 +579,29 @@ pub fn solve_assignment(
         (buffers (now (working .entry)) (now (marks .entry)) (now (columns .entry)) (now («row_prices» .entry)) (now («column_prices» .entry))) r
         (buffers (now (working .exit)) (now (marks .exit)) (now (columns .exit)) (now («row_prices» .exit)) (now («column_prices» .exit))) ⌝ }
 {
-    let verdict = judge(n, costs, mask, working.len(), marks.len(), columns.len(), row_prices.len(), column_prices.len());
+    let verdict = judge(
+        n,
+        costs,
+        mask,
+        working.len(),
+        marks.len(),
+        columns.len(),
+        row_prices.len(),
+        column_prices.len(),
+    );
     match verdict {
         Verdict::Refused(number, place) => refused(number, place, 0, 0),
         Verdict::Dead(row) => refused(6, 0, coverage::cover(0, row), coverage::all_lines(n)),
-        Verdict::Accepted => solve(n, costs, mask, budget, working, marks, columns, row_prices, column_prices),
+        Verdict::Accepted => solve(
+            n,
+            costs,
+            mask,
+            budget,
+            working,
+            marks,
+            columns,
+            row_prices,
+            column_prices,
+        ),
     }
 }

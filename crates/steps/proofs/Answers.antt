@@ -22,7 +22,7 @@ use Rattle.steps.specs.Outcome.{answer, chosen, written, given, judged, 
 use Rattle.steps.proofs.Runs.{over, one-end}
 use Rattle.steps.proofs.Budget.{larger}
 use Rattle.steps.proofs.Starts.{start-same}
-use Rattle.steps.proofs.Verdicts.{SameLengths, verdict-contents, with-budget, verdict-budget, with-costs, SameAllowed, verdict-costs, accepted-is, costs-length}
+use Rattle.steps.proofs.Verdicts.{SameLengths, verdict-contents, with-budget, verdict-budget, with-costs, SameAllowed, verdict-costs, accepted-is, lengths-right}
 
 -- the machine after k steps from the start
 abbrev pub reached : Task → ℕ → Machine
@@ -192,7 +192,7 @@ module _ (t : Task) (before : Buffers) (costs′ : List ℤ) (s : SameAllowed t 
   judged-costs limit accepted e h k =
       let a = accepted-is limit t before e in
       ap (λ (m : Machine). given (with-costs t costs′) before m (m .run .next)) (reached-costs k (a .rows))
-      ∙ given-costs (reached t k) (reached t k .run .next) (costs-length limit t before (a .fit .sizes)) (h k)
+      ∙ given-costs (reached t k) (reached t k .run .next) (lengths-right t before (a .fit .sizes) .costs) (h k)
 
 pub forbidden-costs : {limit : ℕ} {t : Task} {before : Buffers} {a : Answer} {after : Buffers} (costs′ : List ℤ) → SameAllowed t costs′ → PairedAllowed t
     → Outcome limit t before a after → Outcome limit (with-costs t costs′) before a after

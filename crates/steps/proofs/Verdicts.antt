@@ -5,11 +5,12 @@ use mathlib.Core.Bool.{Bool, true, false, not, cond, _&&_}
 use mathlib.Core.List.{List}
 use Prim.Native.Nat.{ℕ, _*_, _≤_, _<_}
 use native.Mathlib.Omega.{arith}
+use borrow.Author.Tests.{eq-eqb}
 use lib.Dec.{T, T-not, ltb, ltb→lt, eqb, eqb→eq, nltb→le}
 use lib.IntN.{ℤ, pos}
 use lib.ListN.{length, getD}
 use Rattle.lines.specs.First.{any}
-use Rattle.lines.proofs.Tests.{cond-ind, and-same, T-yes, and-left, eqb-yes}
+use Rattle.lines.proofs.Tests.{cond-ind, and-same, T-yes, and-left, and-right, eqb-yes}
 use Rattle.lines.proofs.Firsts.{first-is, any-is, any-no, first-ext}
 use Rattle.steps.specs.Lent.{Task, Buffers, allowed, allows}
 use Rattle.steps.specs.Refusal.{Verdict, refused, dead, accepted, out-of-range, lengths, bad-mask, bad-cost, dead-row, verdict}
@@ -55,9 +56,21 @@ module _ (limit : ℕ) (t : Task) (b : Buffers) where
   pub accepted-is : verdict t limit b ≡ accepted → Accepted limit t b
   accepted-is e = rw e at verdict-tells
 
-  pub costs-length : T (lengths t b) → length (t .costs) ≡ t .n * t .n
+-- ---- the lengths
+
+pub record RightLengths (t : Task) (b : Buffers) : Type 0 where
+  pub costs : length (t .costs) ≡ t .n * t .n
+  pub mask : length (t .mask) ≡ t .n * t .n
+  pub working : length (b .working) ≡ t .n * t .n
+  pub marks : length (b .marks) ≡ t .n * t .n
+  pub columns : length (b .columns) ≡ t .n
+  pub row-prices : length (b .row-prices) ≡ t .n
+  pub column-prices : length (b .column-prices) ≡ t .n
+
+module _ (t : Task) (b : Buffers) where
+  pub lengths-right : T (lengths t b) → RightLengths t b
   unfolding lengths
-  costs-length h =
+  lengths-right h =
       let cells = t .n * t .n in
       let x1 = eqb (length (t .costs)) cells in
       let x2 = x1 && eqb (length (t .mask)) cells in
@@ -65,7 +78,33 @@ module _ (limit : ℕ) (t : Task) (b : Buffers) where
       let x4 = x3 && eqb (length (b .marks)) cells in
       let x5 = x4 && eqb (length (b .columns)) (t .n) in
       let x6 = x5 && eqb (length (b .row-prices)) (t .n) in
-      eqb→eq _ _ (and-left x1 _ (and-left x2 _ (and-left x3 _ (and-left x4 _ (and-left x5 _ (and-left x6 _ h))))))
+      let h6 = and-left x6 _ h in
+      let h5 = and-left x5 _ h6 in
+      let h4 = and-left x4 _ h5 in
+      let h3 = and-left x3 _ h4 in
+      let h2 = and-left x2 _ h3 in
+      record {
+        costs = eqb→eq _ _ (and-left x1 _ h2);
+        mask = eqb→eq _ _ (and-right x1 _ h2);
+        working = eqb→eq _ _ (and-right x2 _ h3);
+        marks = eqb→eq _ _ (and-right x3 _ h4);
+        columns = eqb→eq _ _ (and-right x4 _ h5);
+        row-prices = eqb→eq _ _ (and-right x5 _ h6);
+        column-prices = eqb→eq _ _ (and-right x6 _ h);
+      }
+
+  pub right-lengths : RightLengths t b → T (lengths t b)
+  unfolding lengths
+  right-lengths r =
+      rw (
+        eq-eqb _ _ (r .costs),
+        eq-eqb _ _ (r .mask),
+        eq-eqb _ _ (r .working),
+        eq-eqb _ _ (r .marks),
+        eq-eqb _ _ (r .columns),
+        eq-eqb _ _ (r .row-prices),
+        eq-eqb _ _ (r .column-prices),
+      ) tt
 
 -- ---- the same verdict: other contents
 

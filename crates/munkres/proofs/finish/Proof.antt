@@ -1,3 +1,8 @@
+use mathlib.Core.Path.{refl, ap, _∙_}
+use mir.Syntax.{w64}
+use mir.Facts.{toZ-ofZ}
+use Rattle.munkres.specs.View.{view-next}
+use Rattle.munkres.proofs.CallLaws.{given-paired, given-blocked, given-unfinished, not-over}
 use borrow.Author.Needs.{needs}
 use Rattle.munkres.proofs.finish.Statement.{statement}
 use Rattle.munkres.proofs.finish.Tie as tie
@@ -13,7 +18,7 @@ enum-told c = search needs
 
 -- src/lib.rt:388:17
 choose-columns-requires : tie.Need-choose-columns-requires
-choose-columns-requires c κs = ?
+choose-columns-requires c κs = let p = c .before .before .before .before .before .pre in let h = p .5 (ap view-next (c .before .enum-told .given .1)) in (p .0, p .1, p .2, (λ i hi. h i hi .0), λ i hi. h i hi .1)
 
 -- src/lib.rt:389:13
 answer-requires : tie.Need-answer-requires
@@ -81,31 +86,31 @@ same-length c = search needs
 
 -- src/lib.rt:380:1
 returns : tie.Need-returns
-returns c = ?
+returns c = given-paired _ _ _ _ _ (c .before .before .before .before .before .enum-told .given .1) (c .before .before .before .choose-columns .ensures .0) (toZ-ofZ {w = w64} (record { sfits = c .before .before .before .choose-columns .ok }) ∙ c .before .before .before .choose-columns .ensures .1) (c .answer .ensures)
 
 -- src/lib.rt:380:1
 returns-2 : tie.Need-returns-2
-returns-2 c = ?
+returns-2 c = given-blocked _ _ _ _ _ (c .before .before .before .enum-told2 .given .1) (c .before .before .uncovered-lines .ensures) (c .before .uncovered-lines2 .ensures) (c .answer2 .ensures)
 
 -- src/lib.rt:380:1
 returns-3 : tie.Need-returns-3
-returns-3 c = ?
+returns-3 c = given-unfinished _ _ _ _ _ (c .before .enum-told3 .given .1) (c .answer3 .ensures)
 
 -- src/lib.rt:380:1
 returns-4 : tie.Need-returns-4
-returns-4 c = ?
+returns-4 c = absurd (not-over (c .before .before .before .before .before .pre .4) (c .before .enum-told4 .given .1) refl)
 
 -- src/lib.rt:380:1
 returns-5 : tie.Need-returns-5
-returns-5 c = ?
+returns-5 c = absurd (not-over (c .before .before .before .before .before .pre .4) (c .before .enum-told5 .given .1) refl)
 
 -- src/lib.rt:380:1
 returns-6 : tie.Need-returns-6
-returns-6 c = ?
+returns-6 c = absurd (not-over (c .before .before .before .before .before .pre .4) (c .before .enum-told6 .given .1) refl)
 
 -- src/lib.rt:380:1
 returns-7 : tie.Need-returns-7
-returns-7 c = ?
+returns-7 c = absurd (not-over (c .before .before .before .before .before .pre .4) (c .before .enum-told7 .given .1) refl)
 
 pub finish-spec : {M : Type 1} → statement M
 finish-spec =

@@ -54,7 +54,7 @@ step-requires c κs = c .before .before .before .before .before .before .loop .i
 
 -- src/lib.rt:300:5
 loop-less : tie.Need-loop-less Inv-loop μ-loop
-loop-less c = 
+loop-less c =
     coming-falls (c .before .before .before .before .before .step .ensures) (c .before .before .before .before .before .before .before .before .before .before .before .before .loop .inv)
     (sym (c .before .before .before .before .before .before .before .before .before .before .before .is-over .ensures) ∙ c .before .before .before .before .before .before .before .before .before .before .if1 .left)
 

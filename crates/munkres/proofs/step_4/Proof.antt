@@ -24,22 +24,22 @@ enum-known-found c = search needs
 
 -- src/lib.rt:164:19
 mul-marks : tie.Need-mul-marks
-mul-marks c = 
+mul-marks c =
     omega (arith, found-place (c .before .before .before .before .before .before .args .n) _ _ (view (c .before .before .before .before .before .before .args .run)) (c .before .before .before .before .before .before .pre .0 .small) (found-at (c .before .before .before .before .before .before .args .n) _ _ (view (c .before .before .before .before .before .before .args .run)) (sym (c .before .before .before .find-uncovered-cell-column-row-order .ensures) ∙ c .before .found .given .1)))
 
 -- src/lib.rt:164:19
 add-marks : tie.Need-add-marks
-add-marks c = 
+add-marks c =
     omega (arith, found-place (c .before .before .before .before .before .before .args .n) _ _ (view (c .before .before .before .before .before .before .args .run)) (c .before .before .before .before .before .before .pre .0 .small) (found-at (c .before .before .before .before .before .before .args .n) _ _ (view (c .before .before .before .before .before .before .args .run)) (sym (c .before .before .before .find-uncovered-cell-column-row-order .ensures) ∙ c .before .found .given .1)))
 
 -- src/lib.rt:164:13
 slice-write-marks : tie.Need-slice-write-marks
-slice-write-marks c = 
+slice-write-marks c =
     omega (arith, found-place (c .before .before .before .before .before .before .args .n) _ _ (view (c .before .before .before .before .before .before .args .run)) (c .before .before .before .before .before .before .pre .0 .small) (found-at (c .before .before .before .before .before .before .args .n) _ _ (view (c .before .before .before .before .before .before .args .run)) (sym (c .before .before .before .find-uncovered-cell-column-row-order .ensures) ∙ c .before .found .given .1)), c .before .before .before .before .before .before .pre .2 .size)
 
 -- src/lib.rt:165:17
 find-first-star-in-row-requires : tie.Need-find-first-star-in-row-requires
-find-first-star-in-row-requires c κs = 
+find-first-star-in-row-requires c κs =
     (record { small = c .before .before .before .before .before .before .before .pre .2 .small; size = simp length-set (c .before .before .before .before .before .before .before .pre .2 .size) }, (found-at (c .before .before .before .before .before .before .before .args .n) _ _ (view (c .before .before .before .before .before .before .before .args .run)) (sym (c .before .before .before .before .find-uncovered-cell-column-row-order .ensures) ∙ c .before .before .found .given .1)) .row-below)
 
 -- src/lib.rt:168:27
@@ -60,7 +60,7 @@ same-length c = search needs
 
 -- src/lib.rt:167:17
 returns : tie.Need-returns
-returns c = 
+returns c =
     step4-covers (c .before .before .before .before .before .before .before .before .before .before .before .before .args .n) _ _ (view (c .before .before .before .before .before .before .before .before .before .before .before .before .args .run)) _ _ _ _ _ _ (found-at (c .before .before .before .before .before .before .before .before .before .before .before .before .args .n) _ _ (view (c .before .before .before .before .before .before .before .before .before .before .before .before .args .run)) (sym (c .before .before .before .before .before .before .before .before .before .find-uncovered-cell-column-row-order .ensures) ∙ c .before .before .before .before .before .before .before .found .given .1))
     (c .before .before .before .before .find-first-star-in-row .ensures) (c .before .before .before .if1 .taken) (c .before .before .cover .ensures) (c .before .uncover .ensures)
 
@@ -78,13 +78,13 @@ same-length-2 c = search needs
 
 -- src/lib.rt:155:1
 returns-2 : tie.Need-returns-2
-returns-2 c = 
+returns-2 c =
     step4-reaches (c .before .before .before .before .before .before .before .before .before .before .args .n) _ _ (view (c .before .before .before .before .before .before .before .before .before .before .args .run)) _ _ _ _ (found-at (c .before .before .before .before .before .before .before .before .before .before .args .n) _ _ (view (c .before .before .before .before .before .before .before .before .before .before .args .run)) (sym (c .before .before .before .before .before .before .before .find-uncovered-cell-column-row-order .ensures) ∙ c .before .before .before .before .before .found .given .1))
     (c .before .before .find-first-star-in-row .ensures) (c .before .if1 .left)
 
 -- src/lib.rt:155:1
 returns-3 : tie.Need-returns-3
-returns-3 c = 
+returns-3 c =
     step4-none (c .before .before .before .before .before .args .n) _ _ (view (c .before .before .before .before .before .args .run)) _ (sym (c .before .before .find-uncovered-cell-column-row-order .ensures) ∙ c .enum-told .given .1)
 
 pub step-4-spec : {M : Type 1} → statement M

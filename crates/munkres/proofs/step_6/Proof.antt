@@ -33,13 +33,13 @@ same-length c = search needs
 -- src/lib.rt:238:17
 returns : tie.Need-returns
 unfolding lowest
-returns c = 
+returns c =
     step6-spent (c .before .before .before .before .before .before .before .args .n) _ _ (view (c .before .before .before .before .before .before .before .args .run)) _ _ _ (value-found _ _ _ _ (sym (c .before .before .before .before .least-uncovered .ensures) ∙ c .before .before .least .given .1) .0) (c .if1 .taken)
 
 -- src/lib.rt:247:13
 follow-prices-requires : tie.Need-follow-prices-requires
 unfolding lowest
-follow-prices-requires c κs = 
+follow-prices-requires c κs =
     let v = value-found _ _ _ _ (sym (c .before .before .before .before .before .least-uncovered .ensures) ∙ c .before .before .before .least .given .1) in
     let a = c .before .before .before .before .before .before .before .before .pre .5 (c .before .if1 .left) (v .0) in
     let e = back _ _ (v .1) (a .0) in
@@ -48,7 +48,7 @@ follow-prices-requires c κs =
 -- src/lib.rt:248:13
 lower-prices-requires : tie.Need-lower-prices-requires
 unfolding lowest
-lower-prices-requires c κs = 
+lower-prices-requires c κs =
     let v = value-found _ _ _ _ (sym (c .before .before .before .before .before .before .before .before .least-uncovered .ensures) ∙ c .before .before .before .before .before .before .least .given .1) in
     let a = c .before .before .before .before .before .before .before .before .before .before .before .pre .5 (c .before .before .before .before .if1 .left) (v .0) in
     let e = back _ _ (v .1) (a .0) in
@@ -57,7 +57,7 @@ lower-prices-requires c κs =
 -- src/lib.rt:249:13
 raise-prices-requires : tie.Need-raise-prices-requires
 unfolding lowest
-raise-prices-requires c κs = 
+raise-prices-requires c κs =
     let v = value-found _ _ _ _ (sym (c .before .before .before .before .before .before .before .before .before .before .before .least-uncovered .ensures) ∙ c .before .before .before .before .before .before .before .before .before .least .given .1) in
     let a = c .before .before .before .before .before .before .before .before .before .before .before .before .before .before .pre .5 (c .before .before .before .before .before .before .before .if1 .left) (v .0) in
     let e = back _ _ (v .1) (a .0) in
@@ -74,7 +74,7 @@ same-length-2 c = search needs
 -- src/lib.rt:217:1
 returns-2 : tie.Need-returns-2
 unfolding lowest
-returns-2 c = 
+returns-2 c =
     step6-none (c .before .before .before .before .before .args .n) _ _ (view (c .before .before .before .before .before .args .run)) _ _ _ (value-none _ _ _ (sym (c .before .before .least-uncovered .ensures) ∙ c .enum-told .given .1))
 
 -- src/lib.rt:217:1
@@ -92,7 +92,7 @@ same-length-5 c = search needs
 -- src/lib.rt:217:1
 returns-3 : tie.Need-returns-3
 unfolding lowest
-returns-3 c = 
+returns-3 c =
     let v = value-found _ _ _ _ (sym (c .before .before .before .before .before .before .before .before .before .before .before .before .before .least-uncovered .ensures) ∙ c .before .before .before .before .before .before .before .before .before .before .before .least .given .1) in
     let a = c .before .before .before .before .before .before .before .before .before .before .before .before .before .before .before .before .pre .5 (c .before .before .before .before .before .before .before .before .before .if1 .left) (v .0) in
     let e = back _ _ (v .1) (a .0) in
