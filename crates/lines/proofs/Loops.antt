@@ -1,9 +1,11 @@
 -- What a loop over the indices 0, 1, .. keeps from turn to turn, at the code's `i + 1`, and what it has at the end.
 use mathlib.Core.Path.{_≡_, refl, sym, ap, _∙_}
-use mathlib.Core.Bool.{Bool, true, false}
+use mathlib.Core.Logic.{dite}
+use mathlib.Core.Bool.{Bool, true, false, _||_}
 use mathlib.Core.List.{List}
 use Prim.Native.Nat.{ℕ, _+_, _≤_, _<_}
 use native.Mathlib.Numerals.{add-one}
+use native.Mathlib.Decide.{ℕ-discrete}
 use native.Mathlib.Omega.{arith}
 use borrow.Author.Count.{below-none, below-more}
 use borrow.Author.Tests.{lt-ltb, le-ltb}
@@ -16,8 +18,8 @@ use Rattle.lines.specs.Count.{bit, count}
 use Rattle.lines.specs.First.{first, any, least-on, least}
 use Rattle.lines.specs.Square.{table, each}
 use Rattle.lines.specs.Sets.{with, those}
-use Rattle.lines.proofs.Tests.{T-true, by-cases}
-use Rattle.lines.proofs.Firsts.{first-at, first-none, any-yes}
+use Rattle.lines.proofs.Tests.{T-true, T-same, by-cases}
+use Rattle.lines.proofs.Firsts.{first-at, first-none, any-yes, any-is}
 use Rattle.lines.proofs.Squares.{length-table, table-at, length-each, each-at}
 use Rattle.lines.proofs.Sets.{those-yes, those-no}
 
@@ -113,7 +115,16 @@ module _ (b : ℕ → Bool) (f : ℕ → ℤ) (i : ℕ) where
   unfolding least-on
   least-keep h l = by-cases (b i) (λ e. least-more ∙ rw (lt-ltb (least b f i) i h, e, l)) (least-skip h)
 
--- ---- sums, counts and sets
+-- ---- tests, sums, counts and sets
+
+pub any-more : (b : ℕ → Bool) (i : ℕ) → any b (i + 1) ≡ (b i || any b i)
+any-more b i =
+    by-cases (b i)
+    (λ y. rw y (T-true (any b (i + 1)) (any-yes b (i + 1) i (omega arith) (rw y tt))))
+    (λ y. rw y (T-same (any b (i + 1)) (any b i)
+    (λ t. let a = any-is b (i + 1) t in
+    any-yes b i (a .0) (dite (ℕ-discrete (a .0) i) (λ e. absurd (rw (e, y) at (a .2))) (λ ne. omega arith)) (a .2))
+    (λ t. let a = any-is b i t in any-yes b (i + 1) (a .0) (omega arith) (a .2))))
 
 pub sum-more : (f : ℕ → ℕ) (i : ℕ) → sum f (i + 1) ≡ sum f i + f i
 unfolding sum

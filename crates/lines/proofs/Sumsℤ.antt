@@ -1,13 +1,14 @@
 -- Sums of integers over the indices below n.
 use mathlib.Core.Path.{_≡_, refl, ap, ap₂}
 use mathlib.Core.Logic.{dite}
-use Prim.Native.Nat.{ℕ, zero, suc, _+_, _<_}
+use Prim.Native.Nat.{ℕ, zero, suc, _+_, _*_, _<_}
+use native.Mathlib.Nat.{suc-mul}
 use native.Mathlib.Decide.{ℕ-discrete}
 use native.Mathlib.Omega.{arith}
 use lib.IntN.{ℤ, pos, _+ℤ_}
 use lib.Signed.{_≤ℤ_, ≤ℤ-refl}
 use Rattle.lines.specs.Sum.{sum, sumℤ}
-use Rattle.lines.proofs.Signed.{P, N, signed, plus-parts}
+use Rattle.lines.proofs.Signed.{P, N, signed, neg-parts, plus-parts, Within, within-zero}
 
 pub sumℤ-ext : (f g : ℕ → ℤ) (n : ℕ) → ((i : ℕ) → i < n → f i ≡ g i) → sumℤ f n ≡ sumℤ g n
 unfolding sumℤ
@@ -71,3 +72,16 @@ le-sumℤ f (suc n) i e h =
     dite (ℕ-discrete i n)
     (λ q. rw q (omega (signed, sumℤ-whole f n low, plus-parts (sumℤ f n) (f n))))
     (λ ne. omega (signed, le-sumℤ f n i low (omega arith), e n (omega arith), plus-parts (sumℤ f n) (f n)))
+
+-- of summands that are at most L away from 0
+pub sumℤ-within : (L : ℕ) (f : ℕ → ℤ) (n : ℕ) → ((i : ℕ) → i < n → Within L (f i)) → Within (n * L) (sumℤ f n)
+unfolding sumℤ
+sumℤ-within L f zero e = within-zero (zero * L)
+sumℤ-within L f (suc n) e =
+    let a = sumℤ-within L f n (λ i h. e i (omega arith)) in
+    let b = e n (omega arith) in
+    let s = plus-parts (sumℤ f n) (f n) in
+    record {
+      above = omega (signed, neg-parts (pos (suc n * L)), neg-parts (pos (n * L)), neg-parts (pos L), a .above, b .above, suc-mul n L);
+      below = omega (signed, a .below, b .below, suc-mul n L);
+    }

@@ -7,3 +7,5 @@ pub mod StepLaws
 pub mod GoodLaws
 pub mod Arms
 pub mod CallLaws
+pub mod StarLaws
+pub mod Sums

@@ -35,8 +35,8 @@ Adjusts n ok budget r working row-prices column-prices =
     SFits w64 z × Fit64 (followed n ok z (r .rows) (r .columns) working) × Fit64 (lowered z (r .rows) row-prices) × Fit64 (raised z (r .columns) column-prices)
 
 -- what steps 1 and 2 ask: every row has an allowed cell
-abbrev pub Startable : ℕ → List ℤ → List ℕ → Type 0
-Startable n costs mask = (i : ℕ) → i < n → T (any (allows n mask i) n)
+abbrev pub Startable : ℕ → List ℕ → Type 0
+Startable n mask = (i : ℕ) → i < n → T (any (allows n mask i) n)
 
 -- what an end gives back: the answer, and the columns
 abbrev pub Given : ℕ → List ℤ → Run → List ℕ → List ℕ → Next → Answer → List ℕ → Type 0

@@ -131,23 +131,18 @@ fn step_3(n: usize, run: Run, marks: &[u8]) -> Run
         }
         row += 1;
     }
-    if stars == n {
-        return Run {
-            rows: run.rows,
-            columns,
-            adjustments: run.adjustments,
-            primes: run.primes,
-            augmentations: run.augmentations,
-            next: Next::Paired,
-        };
-    }
+    let next = if stars == n {
+        Next::Paired
+    } else {
+        Next::Step4
+    };
     Run {
         rows: run.rows,
         columns,
         adjustments: run.adjustments,
         primes: run.primes,
         augmentations: run.augmentations,
-        next: Next::Step4,
+        next,
     }
 }
 
@@ -354,7 +349,7 @@ fn start(
     column_prices: &mut [i64],
 ) -> Run
     requires { ⌜ Square n (now costs) × Square n (now mask) × Square n (now working) × Square n (now marks) × (length (now «row_prices») ≡ n) × (length (now «column_prices») ≡ n)
-        × Startable n (now costs) (now mask) ⌝ }
+        × Startable n (now mask) ⌝ }
     ensures { λ r. ⌜ machine (view r) (now (working .exit)) (now (marks .exit)) (now («row_prices» .exit)) (now («column_prices» .exit))
         ≡ Steps·start n (allows n (now (mask .entry))) (cost-at n (now (costs .entry))) ⌝ }
 {
