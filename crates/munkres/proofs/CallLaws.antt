@@ -10,9 +10,10 @@ use lib.Dec.{T, not-T, ltb, ltb→lt, lt→ltb, eqb, eqb→eq}
 use lib.IntN.{ℤ, pos}
 use lib.ListN.{length, length-replicate}
 use Rattle.lines.specs.First.{any, first}
-use Rattle.lines.specs.Sets.{rest}
+use Rattle.lines.specs.Sets.{rest, with, all}
 use Rattle.lines.specs.Square.{cell, table}
 use Rattle.lines.proofs.Tests.{T-true, T-false, T-same, eqb-yes, eqb-no}
+use Rattle.lines.proofs.Squares.{table-at}
 use Rattle.lines.proofs.Signed.{Within}
 use Rattle.assignment.specs.Problem.{total}
 use Rattle.steps.specs.declared.Answer.{Answer}
@@ -20,13 +21,23 @@ use Rattle.steps.specs.Lent.{Task, Buffers, allows, cost-at}
 use Rattle.steps.specs.Refusal as R
 use Rattle.steps.specs.Steps as S
 use Rattle.steps.specs.Steps.{Run, Machine, machine, star-in-row, start, steps}
-use Rattle.steps.specs.Outcome.{answer, given, judged, written, chosen, Outcome}
+use Rattle.steps.specs.Outcome.{answer, no-run, given, judged, written, chosen, Outcome}
+use Rattle.steps.specs.Promise.{Promise}
 use Rattle.steps.proofs.Runs.{over}
-use Rattle.steps.proofs.Verdicts.{RightLengths, lengths-right, right-lengths}
+use Rattle.steps.proofs.Ends.{paired}
+use Rattle.steps.proofs.Search.{Sound-at}
+use Rattle.steps.proofs.Fresh.{fresh-start}
+use Rattle.steps.proofs.Limited.{limited-start}
+use Rattle.steps.proofs.Theorems.{cost-within}
+use Rattle.steps.proofs.Verdicts.{Accepted, verdict-tells, accepted-is, RightLengths, lengths-right, right-lengths, SameLengths, verdict-contents, verdict-budget}
+use Rattle.steps.proofs.Promised.{promised}
 use Rattle.munkres.specs.declared.Next.{Next}
 use Rattle.munkres.specs.declared.Next.the-variants.{Step3, Step4, Step5, Step6, Paired, NoPairing, Unfinished}
-use Rattle.munkres.specs.View.{view-next, task, buffers, lent}
-use Rattle.munkres.specs.Good.{Given, Good, Came}
+use Rattle.munkres.specs.declared.Verdict.{Verdict}
+use Rattle.munkres.specs.declared.Verdict.the-variants.{Dead}
+use Rattle.munkres.specs.View.{view-next, view-verdict, task, buffers, lent}
+use Rattle.munkres.specs.Square.{Square}
+use Rattle.munkres.specs.Good.{Startable, Given, Good, Came}
 
 -- ---- what an end gives back
 
@@ -150,3 +161,117 @@ module _ (n : ℕ) (costs : List ℤ) (mask : List ℕ) (working marks columns r
         column-prices = length-replicate column-prices (pos 0) ∙ eqb→eq column-prices n u;
       }))
       (λ u. eqb-yes column-prices n (sym (length-replicate column-prices (pos 0)) ∙ lengths-right t l u .column-prices))
+
+-- ---- the call, from an accepted input to an end
+
+module _ (n : ℕ) (costs : List ℤ) (mask : List ℕ) (budget : ℕ) (b : Buffers) (v : R.verdict (task n costs mask budget) 64 b ≡ R.accepted) where
+  abbrev t : Task
+  t = task n costs mask budget
+
+  fit : Accepted 64 t b
+  fit = accepted-is 64 t b v
+
+  sizes : RightLengths t b
+  sizes = lengths-right t b (fit .fit .sizes)
+
+  square : {A : Type 0} {cells : List A} → length cells ≡ n * n → Square n cells
+  square e = record { small = fit .fit .most; size = e }
+
+  pub start-asks : Square n costs × Square n mask × Square n (b .working) × Square n (b .marks) × (length (b .row-prices) ≡ n) × (length (b .column-prices) ≡ n) × Startable n mask
+  start-asks = (square (sizes .costs), square (sizes .mask), square (sizes .working), square (sizes .marks), sizes .row-prices, sizes .column-prices, fit .rows)
+
+  within : (i j : ℕ) → i < n → j < n → T (allows n mask i j) → Within 1_000_000_000 (cost-at n costs i j)
+  within = cost-within 64 t b fit
+
+  pub good-start : {m : Machine} → m ≡ start n (allows n mask) (cost-at n costs) → Good n mask budget m
+  unfolding start
+  good-start e =
+      rw e record {
+        some = fit .fit .some;
+        small = fit .fit .most;
+        masked = sizes .mask;
+        spare = omega arith;
+        cost = cost-at n costs;
+        rows = fit .rows;
+        range = within;
+        fresh = fresh-start n (allows n mask) (cost-at n costs) (fit .fit .some) (fit .rows);
+        limited = limited-start n (allows n mask) (cost-at n costs) within (fit .rows);
+      }
+
+  -- at a pairing each row has its star, on an allowed cell
+  star-allowed : {m : Machine} → Good n mask budget m → m .run .next ≡ S.Paired → (i : ℕ) → i < n
+      → (star-in-row n (m .marks) i < n) × T (allows n mask i (star-in-row n (m .marks) i))
+  star-allowed {m} g e i hi =
+      let s = subst (λ x. Sound-at n (allows n mask) x m) e (g .fresh .sound .at-next) in
+      let p = paired n (allows n mask) (s .0) (s .1) in
+      let q = table-at 0 (star-in-row n (m .marks)) n i hi in
+      (rw q at (p .pairing .below i hi), rw q at (p .allowed i hi))
+
+  pub working-kept : {before m : Machine} → Came n mask budget before m → length (m .working) ≡ length (b .working)
+  working-kept c = c .good .fresh .shape .working ∙ sym (sizes .working)
+
+  pub finish-asks : {before m : Machine} → Came n mask budget before m
+      → Square n costs × Square n (m .marks) × (length (b .columns) ≡ n) × (1 ≤ n) × (over (m .run .next) ≡ true)
+      × (m .run .next ≡ S.Paired → (i : ℕ) → i < n → (star-in-row n (m .marks) i < n) × Within 1_000_000_000 (cost-at n costs i (star-in-row n (m .marks) i)))
+  finish-asks c = (
+    square (sizes .costs),
+    square (c .good .fresh .shape .marks),
+    sizes .columns,
+    fit .fit .some,
+    c .ended,
+    λ e i hi. let a = star-allowed (c .good) e i hi in (a .0, within i _ hi (a .0) (a .1)),
+  )
+
+  given-is : (m : Machine) (x : S.Next) {a : Answer} {columns : List ℕ} → Given n costs (m .run) (m .marks) (b .columns) x a columns
+      → given t b m x ≡ some (a, buffers (m .working) (m .marks) columns (m .row-prices) (m .column-prices))
+  unfolding given chosen written
+  given-is m S.Paired g = rw (g .0, g .1)
+  given-is m S.NoPairing g = rw (g .0, g .1)
+  given-is m S.Unfinished g = rw (g .0, g .1)
+  given-is m S.Step3 g = absurd g
+  given-is m S.Step4 g = absurd g
+  given-is m (S.Step5 i j) g = absurd g
+  given-is m S.Step6 g = absurd g
+
+  pub solved : {before m : Machine} {a : Answer} {columns : List ℕ} → before ≡ start n (allows n mask) (cost-at n costs) → Came n mask budget before m
+      → Given n costs (m .run) (m .marks) (b .columns) (m .run .next) a columns
+      → Outcome 64 t b a (buffers (m .working) (m .marks) columns (m .row-prices) (m .column-prices))
+  unfolding judged
+  solved {before} {m} e c g = record {
+    count = c .count;
+    exact = ap (judged t b (c .count)) v ∙ ap (λ (m : Machine). given t b m (m .run .next)) (sym (c .exact ∙ ap (steps n (allows n mask) budget (c .count)) e)) ∙ given-is m _ g;
+  }
+
+-- ---- the verdict of a call
+
+pub dead-place : (t : Task) (b : Buffers) {x : Verdict} {row : ℕ} → view-verdict x ≡ R.verdict t 64 b → x ≡ Dead row → (row < t .n) × (t .n ≤ 64)
+dead-place t b e f = let d = rw (sym e ∙ ap view-verdict f) at (verdict-tells 64 t b) in (d .0, d .2)
+
+-- the judge is told only the lengths of the written buffers
+
+module _ (n : ℕ) (costs : List ℤ) (mask : List ℕ) (budget : ℕ) (b : Buffers) where
+  abbrev call : Task
+  call = task n costs mask budget
+
+  pub verdict-is : {x y : Verdict}
+      → view-verdict x ≡ R.verdict (task n costs mask 0) 64 (lent (length (b .working)) (length (b .marks)) (length (b .columns)) (length (b .row-prices)) (length (b .column-prices)))
+      → x ≡ y → R.verdict call 64 b ≡ view-verdict y
+  verdict-is e f = sym (verdict-budget 64 call b 0) ∙ sym (e ∙ verdict-contents 64 (task n costs mask 0) _ b same-lengths) ∙ ap view-verdict f
+    where
+      same-lengths : SameLengths (lent (length (b .working)) (length (b .marks)) (length (b .columns)) (length (b .row-prices)) (length (b .column-prices))) b
+      same-lengths = record {
+        working = length-replicate _ (pos 0);
+        marks = length-replicate _ 0;
+        columns = length-replicate _ 0;
+        row-prices = length-replicate _ (pos 0);
+        column-prices = length-replicate _ (pos 0);
+      }
+
+  pub refused-promise : {number place : ℕ} {a : Answer} → R.verdict call 64 b ≡ R.refused number place → a ≡ answer number place (pos 0) no-run 0 0 → Promise 64 call b a b
+  unfolding judged
+  refused-promise e q = promised (record { count = 0; exact = ap (judged call b 0) e ∙ (rw q) })
+
+  pub dead-promise : {row rows columns : ℕ} {a : Answer} → R.verdict call 64 b ≡ R.dead row → rows ≡ with 0 row → columns ≡ all n → a ≡ answer 6 0 (pos 0) no-run rows columns
+      → Promise 64 call b a b
+  unfolding judged
+  dead-promise e er ec q = promised (record { count = 0; exact = ap (judged call b 0) e ∙ (rw (q, er, ec)) })

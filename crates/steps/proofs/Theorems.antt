@@ -101,7 +101,7 @@ module _ (limit : ℕ) (t : Task) (before : Buffers) where
   abbrev pub most-cost : ℕ
   most-cost = 1_000_000_000
 
-  cost-within : Accepted limit t before → (i j : ℕ) → i < t .n → j < t .n → T (allowed t i j) → Within most-cost (cost t i j)
+  pub cost-within : Accepted limit t before → (i j : ℕ) → i < t .n → j < t .n → T (allowed t i j) → Within most-cost (cost t i j)
   unfolding allows cost-at bad-cost out-of-range
   cost-within f i j hi hj u =
       let q = i * t .n + j in

@@ -26,7 +26,7 @@ pub record Accepted (limit : ℕ) (t : Task) (b : Buffers) : Type 0 where
 module _ (limit : ℕ) (t : Task) (b : Buffers) where
   abbrev pub Tells : Verdict → Type 0
   Tells (refused number place) = (0 < number) × (number < 6) × (Fit limit t b → ⊥)
-  Tells (dead row) = (row < t .n) × T (not (any (allowed t row) (t .n)))
+  Tells (dead row) = (row < t .n) × T (not (any (allowed t row) (t .n))) × (t .n ≤ limit)
   Tells accepted = Accepted limit t b
 
   pub verdict-tells : Tells (verdict t limit b)
@@ -38,7 +38,7 @@ module _ (limit : ℕ) (t : Task) (b : Buffers) where
       cond-ind Tells (not (lengths t b)) _ _ (λ t3. (omega arith, omega arith, λ f. T-not (lengths t b) t3 (f .sizes))) (λ t3.
       cond-ind Tells (any (bad-mask (t .mask)) cells) _ _ (λ t4. (omega arith, omega arith, λ f. let x = any-is (bad-mask (t .mask)) cells t4 in T-not (bad-mask (t .mask) (x .0)) (f .masks (x .0) (x .1)) (x .2))) (λ t4.
       cond-ind Tells (any (bad-cost (t .costs) (t .mask)) cells) _ _ (λ t5. (omega arith, omega arith, λ f. let x = any-is (bad-cost (t .costs) (t .mask)) cells t5 in T-not (bad-cost (t .costs) (t .mask) (x .0)) (f .costs (x .0) (x .1)) (x .2))) (λ t5.
-      cond-ind Tells (any (dead-row (t .n) (t .mask)) (t .n)) _ _ (λ t6. let h = ltb→lt _ (t .n) t6 in (h, first-is (dead-row (t .n) (t .mask)) (t .n) .hit h)) (λ t6.
+      cond-ind Tells (any (dead-row (t .n) (t .mask)) (t .n)) _ _ (λ t6. let h = ltb→lt _ (t .n) t6 in (h, first-is (dead-row (t .n) (t .mask)) (t .n) .hit h, nltb→le limit (t .n) t2)) (λ t6.
       record {
         fit = record {
           some = positive (λ z. T-not (eqb (t .n) 0) t1 (eqb-yes (t .n) 0 z));

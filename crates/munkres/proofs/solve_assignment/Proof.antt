@@ -1,4 +1,7 @@
+use native.Mathlib.Omega.{arith}
 use borrow.Author.Needs.{needs}
+use Rattle.steps.proofs.Promised.{promised}
+use Rattle.munkres.proofs.CallLaws.{verdict-is, refused-promise, dead-place, dead-promise}
 use Rattle.munkres.proofs.solve_assignment.Statement.{statement}
 use Rattle.munkres.proofs.solve_assignment.Tie as tie
 use Rattle.munkres.proofs.solve_assignment.Reads as reads
@@ -27,11 +30,11 @@ enum-known-verdict-2 c = search needs
 
 -- src/lib.rt:594:45
 cover-requires : tie.Need-cover-requires
-cover-requires c κs = ?
+cover-requires c κs = let d = dead-place _ _ (c .before .before .before .judge .ensures) (c .before .verdict2 .given .1) in omega (arith, d .0, d .1)
 
 -- src/lib.rt:594:70
 all-lines-requires : tie.Need-all-lines-requires
-all-lines-requires c κs = ?
+all-lines-requires c κs = let d = dead-place _ _ (c .before .before .before .before .judge .ensures) (c .before .before .verdict2 .given .1) in (omega (arith, d .0), d .1)
 
 -- src/lib.rt:594:31
 refused-requires-2 : tie.Need-refused-requires-2
@@ -43,15 +46,15 @@ enum-told c = search needs
 
 -- src/lib.rt:595:30
 solve-requires : tie.Need-solve-requires
-solve-requires c κs = ?
+solve-requires c κs = (verdict-is _ _ _ _ _ (c .before .before .before .before .before .before .before .judge .ensures) (c .before .before .before .before .before .enum-told .given .1))
 
 -- src/lib.rt:567:1
 returns : tie.Need-returns
-returns c = ?
+returns c = refused-promise _ _ _ _ _ (verdict-is _ _ _ _ _ (c .before .before .before .before .judge .ensures) (c .before .before .verdict .given .1)) (c .refused .ensures)
 
 -- src/lib.rt:567:1
 returns-2 : tie.Need-returns-2
-returns-2 c = ?
+returns-2 c = dead-promise _ _ _ _ _ (verdict-is _ _ _ _ _ (c .before .before .before .before .before .before .judge .ensures) (c .before .before .before .before .verdict2 .given .1)) (c .before .before .cover .ensures) (c .before .all-lines .ensures) (c .refused2 .ensures)
 
 -- src/lib.rt:567:1
 same-length : tie.Need-same-length
@@ -75,7 +78,7 @@ same-length-5 c = search needs
 
 -- src/lib.rt:567:1
 returns-3 : tie.Need-returns-3
-returns-3 c = ?
+returns-3 c = promised (c .before .before .before .before .before .before .before .solve .ensures)
 
 pub solve-assignment-spec : {M : Type 1} → statement M
 solve-assignment-spec =
