@@ -11,3 +11,4 @@ pub mod Sets
 pub mod Bits
 pub mod Words
 pub mod Loops
+pub mod Rows

@@ -82,3 +82,8 @@ cond-same false x y z h = refl
 pub and-same : (b x y : Bool) → (T b → x ≡ y) → (b && x) ≡ (b && y)
 and-same true x y h = h tt
 and-same false x y h = refl
+
+-- by the ways that meet; the sum stands first, so that each arm is read with what it is handed
+pub cases : {A B C : Type 0} → A ⊎ B → (A → C) → (B → C) → C
+cases (inl a) f g = f a
+cases (inr b) f g = g b

@@ -9,3 +9,4 @@ pub mod Arms
 pub mod CallLaws
 pub mod StarLaws
 pub mod Sums
+pub mod Bounds

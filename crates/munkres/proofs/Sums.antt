@@ -14,13 +14,7 @@ use Rattle.lines.proofs.Sumsℤ.{sumℤ-ext, sumℤ-within}
 use Rattle.lines.proofs.Squares.{table-at}
 use Rattle.lines.proofs.Loops.{sumℤ-more}
 use Rattle.assignment.specs.Problem.{total}
-
--- an `i32` as an `i64`: what the cast asks, and what comes of it
-pub wide-fits : (z : ℤ) → mag z < 2 ^ 31 → SFits w64 (toZ w32 (ofZ w32 z))
-wide-fits z h = rw (toZ-ofZ {w = w32} {z = z} (record { sfits = h })) (record { sfits = omega arith })
-
-pub wide-back : (z : ℤ) → mag z < 2 ^ 31 → toZ w64 (ofZ w64 (toZ w32 (ofZ w32 z))) ≡ z
-wide-back z h = rw (toZ-ofZ {w = w32} {z = z} (record { sfits = h })) (toZ-ofZ {w = w64} {z = z} (record { sfits = omega arith }))
+use Rattle.munkres.proofs.Wide.{wide-fits, wide-back}
 
 -- one value more: what the cast and the addition ask, and the bits that come of them
 pub record Added (f : ℕ → ℤ) (bits k : ℕ) (z : ℤ) : Type 0 where

@@ -1,15 +1,17 @@
 -- The search for the least value as the code makes it: turn by turn, row by row, and what its answer says of the search for its place.
 use mathlib.Core.Path.{_≡_, refl, sym, ap, _∙_}
-use mathlib.Core.Bool.{Bool, true, false, not, cond, _&&_}
+use mathlib.Core.Bool.{Bool, true, false, cond, _&&_}
 use Prim.Native.Nat.{ℕ, zero, suc, _+_, _*_, _/_, _%_, _≤_, _<_}
-use native.Mathlib.Nat.{add-zero, add-suc}
+use native.Mathlib.Nat.{add-zero, add-suc, zero-mul}
 use native.Mathlib.Numerals.{add-one}
 use native.Mathlib.Omega.{arith}
 use borrow.Author.Tests.{lt-ltb, le-ltb, ltb-true, ltb-false}
-use lib.Dec.{ltb}
+use lib.Dec.{T, ltb}
 use lib.IntN.{ℤ}
 use lib.Signed.{ltZ}
-use Rattle.lines.specs.First.{least-on, least}
+use Rattle.lines.specs.First.{any, least-on, least}
+use Rattle.lines.proofs.Firsts.{any-is}
+use Rattle.lines.proofs.Leasts.{least-is}
 use Rattle.lines.proofs.Squares.{place-of}
 use Rattle.munkres.specs.Least.{lesser-of, least-from}
 use Rattle.munkres.specs.declared.weight_matrix.Least.{Least}
@@ -25,7 +27,7 @@ module _ (best : Least) (b : ℕ → Bool) (f : ℕ → ℤ) (i : ℕ) (now next
   unfolding least-from
   from-skip e y k = k ∙ rw (add-one, y, e)
 
--- one value more: the first, a lesser one, and one that is not
+-- one value more, that is less than the least so far, or is not
 pub lesser-less : (best : Least) (b z : ℤ) → best ≡ Value b → ltZ z b ≡ true → Value z ≡ lesser-of best z
 unfolding lesser-of
 lesser-less best b z e t = rw (e, t)
@@ -33,6 +35,16 @@ lesser-less best b z e t = rw (e, t)
 pub lesser-more : (best : Least) (b z : ℤ) → best ≡ Value b → ltZ z b ≡ false → Value b ≡ lesser-of best z
 unfolding lesser-of
 lesser-more best b z e t = rw (e, t)
+
+-- what holds of each value holds of the least
+pub lesser-holds : (Q : ℤ → Type 0) (now next : Least) (y : ℤ) → next ≡ lesser-of now y → Q y → ((z : ℤ) → now ≡ Value z → Q z) → (z : ℤ) → next ≡ Value z → Q z
+unfolding lesser-of
+lesser-holds Q Nothing next y k q f z e = let p : y ≡ z = cc in rw p at q
+lesser-holds Q (Value b) next y k q f z e = go (ltZ y b) (sym k ∙ e)
+  where
+    go : (t : Bool) → cond t (Value y) (Value b) ≡ Value z → Q z
+    go true d = let p : y ≡ z = cc in rw p at q
+    go false d = f z d
 
 -- ---- what the answer says of the search for the place
 
@@ -58,15 +70,13 @@ place-value b f (suc n) = rw (place-value b f n) (go (b n) (ltb v n) (ltZ (f n) 
     go false true z e k = some v (omega (arith, ltb-true v n e))
     go false false z e k = rw (le-ltb (suc n) (suc n) (omega arith))
 
+-- a value comes from the place that the definition searches for
 pub value-found : (b : ℕ → Bool) (f : ℕ → ℤ) (n : ℕ) (z : ℤ) → least-from Nothing b f n ≡ Value z → (least b f n < n) × (z ≡ f (least b f n))
 value-found b f n z e = go (ltb (least b f n) n) refl (sym e ∙ place-value b f n)
   where
     go : (y : Bool) → ltb (least b f n) n ≡ y → Value z ≡ cond y (Value (f (least b f n))) Nothing → (least b f n < n) × (z ≡ f (least b f n))
     go true k q = (ltb-true _ n k, cc)
-    go false k q = absurd (clash q)
-      where
-        clash : Value z ≡ Nothing → ⊥
-        clash h = let o : _≡_ {A = ℕ} 0 1 = cc in omega arith
+    go false k q = let o : _≡_ {A = ℕ} 0 1 = cc in absurd (omega arith)
 
 pub value-none : (b : ℕ → Bool) (f : ℕ → ℤ) (n : ℕ) → least-from Nothing b f n ≡ Nothing → n ≤ least b f n
 value-none b f n e = go (ltb (least b f n) n) refl (sym e ∙ place-value b f n)
@@ -74,6 +84,13 @@ value-none b f n e = go (ltb (least b f n) n) refl (sym e ∙ place-value b f n)
     go : (y : Bool) → ltb (least b f n) n ≡ y → Nothing ≡ cond y (Value (f (least b f n))) Nothing → n ≤ least b f n
     go true k q = let o : _≡_ {A = ℕ} 0 1 = cc in absurd (omega arith)
     go false k q = ltb-false _ n k
+
+-- where one passes, there is an answer
+pub value-any : (b : ℕ → Bool) (f : ℕ → ℤ) (n : ℕ) → T (any b n) → least-from Nothing b f n ≡ Nothing → ⊥
+value-any b f n t e =
+    let a = any-is b n t in
+    let h = value-none b f n e in
+    omega (arith, least-is b f n .low (a .0) (a .1) (a .2) .0)
 
 -- ---- row by row
 
@@ -99,10 +116,15 @@ from-no best b f (suc n) e = rw (e n (omega arith)) (from-no best b f n (λ i h.
 
 -- over the places of a square, after i rows: row i is searched, or has no cell that passes
 module _ (best : Least) (n : ℕ) (b : ℕ → ℕ → Bool) (f : ℕ → ℤ) where
-  abbrev pub rows-least : ℕ → Least
+  unfoldable pub rows-least : ℕ → Least
   rows-least i = least-from best (λ q. b (q / n) (q % n)) f (i * n)
 
+  pub rows-least-none : best ≡ rows-least 0
+  unfolding rows-least least-from
+  rows-least-none = rw zero-mul
+
   rows-least-more : (i : ℕ) → rows-least (i + 1) ≡ least-from (rows-least i) (b i) (λ j. f (i * n + j)) n
+  unfolding rows-least
   rows-least-more i = ap (least-from best _ f) more ∙ from-on best _ f (i * n) n ∙ from-ext _ _ _ _ _ n (λ j h. here j (place-of n i j h)) (λ j h. refl)
     where
       more : (i + 1) * n ≡ i * n + n
@@ -113,7 +135,8 @@ module _ (best : Least) (n : ℕ) (b : ℕ → ℕ → Bool) (f : ℕ → ℤ) w
 
   pub row-searched : (i : ℕ) (c : ℕ → Bool) (now next : Least) → now ≡ rows-least i → next ≡ least-from now c (λ j. f (i * n + j)) n
       → ((j : ℕ) → j < n → c j ≡ b i j) → next ≡ rows-least (i + 1)
-  row-searched i c now next e k same = k ∙ from-ext now _ _ _ _ n same (λ j h. refl) ∙ ap (λ l. least-from l (b i) (λ j. f (i * n + j)) n) e ∙ sym (rows-least-more i)
+  row-searched i c now next e k same =
+      k ∙ from-ext now _ _ _ _ n same (λ j h. refl) ∙ ap (λ l. least-from l (b i) (λ j. f (i * n + j)) n) e ∙ sym (rows-least-more i)
 
   pub row-passed-over : (i : ℕ) (now next : Least) → now ≡ rows-least i → next ≡ now → ((j : ℕ) → j < n → b i j ≡ false) → next ≡ rows-least (i + 1)
   row-passed-over i now next e k none = k ∙ e ∙ sym (from-no (rows-least i) (b i) _ n none) ∙ sym (rows-least-more i)

@@ -3,7 +3,7 @@ ghost use mathlib.Core.Path.{_≡_};
 ghost use mathlib.Core.Bool.{cond, not, _&&_};
 ghost use Prim.Native.Nat.{ℕ, _+_, _*_, _/_, _%_, _<_, _≤_};
 ghost use lib.Dec.{T, eqb};
-ghost use lib.IntN.{pos, _-ℤ_};
+ghost use lib.IntN.{ℤ, pos, _-ℤ_};
 ghost use lib.ListN.{length, getD};
 ghost use mir.Syntax.{w64};
 ghost use mir.Val.{SFits};
@@ -48,10 +48,11 @@ pub(crate) fn is_element_zero(mask: &[u8], working: &[i64], place: usize) -> boo
 
 // ---- step 1
 
-// The least allowed cost of the row.
+// The least allowed cost of the row, at most 2^31 away from 0 as every `i32` is.
 fn min_of_row(n: usize, costs: &[i32], mask: &[u8], row: usize) -> Least
     requires { ⌜ Square n (now costs) × Square n (now mask) × (row < n) ⌝ }
-    ensures { λ r. ⌜ r ≡ least-from Least.Nothing (allows n (now (mask .entry)) row) (cost-at n (now (costs .entry)) row) n ⌝ }
+    ensures { λ r. ⌜ (r ≡ least-from Least.Nothing (allows n (now (mask .entry)) row) (cost-at n (now (costs .entry)) row) n)
+        × ((z : ℤ) → r ≡ Least.Value z → Within 2147483648 z) ⌝ }
 {
     let start = row * n;
     let mut least = Least::Nothing;
@@ -68,7 +69,7 @@ fn min_of_row(n: usize, costs: &[i32], mask: &[u8], row: usize) -> Least
 // The row's price; 0 for a row without an allowed cell, of which there is none.
 fn price_of_row(n: usize, costs: &[i32], mask: &[u8], row: usize) -> i64
     requires { ⌜ Square n (now costs) × Square n (now mask) × (row < n) × T (any (allows n (now mask) row) n) ⌝ }
-    ensures { λ r. ⌜ r ≡ row-price n (allows n (now (mask .entry))) (cost-at n (now (costs .entry))) row ⌝ }
+    ensures { λ r. ⌜ (r ≡ row-price n (allows n (now (mask .entry))) (cost-at n (now (costs .entry))) row) × Within 2147483648 r ⌝ }
 {
     match min_of_row(n, costs, mask, row) {
         Least::Value(price) => price,
@@ -164,7 +165,19 @@ pub(crate) fn least_uncovered(
     least
 }
 
-// The row's working values follow the prices: up where row and column are covered, down where neither is.
+// A working value follows the prices: up where row and column are covered, down where neither is.
+fn followed_value(change: i64, row: bool, column: bool, value: i64) -> i64
+    requires { ⌜ SFits w64 (follow change row column value) ⌝ }
+    ensures { λ r. ⌜ r ≡ follow change row column value ⌝ }
+{
+    if row {
+        if column { value + change } else { value }
+    } else {
+        if column { value } else { value - change }
+    }
+}
+
+// Every allowed cell of the row is stored, changed or not: a store for each is faster than a branch.
 fn follow_row(
     n: usize,
     mask: &[u8],
@@ -183,15 +196,8 @@ fn follow_row(
     while column < n {
         let place = start + column;
         if mask[place] == 1 {
-            if coverage::is_covered(columns, column) {
-                if covered {
-                    working[place] = working[place] + change;
-                }
-            } else {
-                if !covered {
-                    working[place] = working[place] - change;
-                }
-            }
+            let crossed = coverage::is_covered(columns, column);
+            working[place] = followed_value(change, covered, crossed, working[place]);
         }
         column += 1;
     }
