@@ -1,3 +1,4 @@
+-- `finish` meets its contract at each end. The arms of steps 3 to 6 are never reached: the run is over.
 use mathlib.Core.Path.{refl, ap, _∙_}
 use mir.Syntax.{w64}
 use mir.Facts.{toZ-ofZ}
@@ -6,109 +7,79 @@ use Rattle.munkres.proofs.CallLaws.{given-paired, given-blocked, given-
 use borrow.Author.Needs.{needs}
 use Rattle.munkres.proofs.finish.Statement.{statement}
 use Rattle.munkres.proofs.finish.Tie as tie
-use Rattle.munkres.proofs.finish.Reads as reads
-use Rattle.munkres.proofs.finish.Lts as lts
-use Rattle.munkres.proofs.answer.Reads as answer-reads
-use Rattle.munkres.proofs.choose_columns.Reads as choose-columns-reads
-use Rattle.munkres.proofs.coverage.uncovered_lines.Reads as uncovered-lines-reads
 
--- src/lib.rt:388:57
 enum-told : tie.Need-enum-told
 enum-told c = search needs
 
--- src/lib.rt:388:17
 choose-columns-requires : tie.Need-choose-columns-requires
 choose-columns-requires c κs = let p = c .before .before .before .before .before .pre in let h = p .5 (ap view-next (c .before .enum-told .given .1)) in (p .0, p .1, p .2, (λ i hi. h i hi .0), λ i hi. h i hi .1)
 
--- src/lib.rt:389:13
 answer-requires : tie.Need-answer-requires
 answer-requires c κs = search needs
 
--- src/lib.rt:392:17
 enum-told-2 : tie.Need-enum-told-2
 enum-told-2 c = search needs
 
--- src/lib.rt:394:31
 uncovered-lines-requires : tie.Need-uncovered-lines-requires
 uncovered-lines-requires c κs = search needs
 
--- src/lib.rt:394:67
 uncovered-lines-requires-2 : tie.Need-uncovered-lines-requires-2
 uncovered-lines-requires-2 c κs = search needs
 
--- src/lib.rt:394:13
 answer-requires-2 : tie.Need-answer-requires-2
 answer-requires-2 c κs = search needs
 
--- src/lib.rt:396:29
 enum-told-3 : tie.Need-enum-told-3
 enum-told-3 c = search needs
 
--- src/lib.rt:396:29
 answer-requires-3 : tie.Need-answer-requires-3
 answer-requires-3 c κs = search needs
 
--- src/lib.rt:397:24
 enum-told-4 : tie.Need-enum-told-4
 enum-told-4 c = search needs
 
--- src/lib.rt:397:24
 answer-requires-4 : tie.Need-answer-requires-4
 answer-requires-4 c κs = search needs
 
--- src/lib.rt:398:24
 enum-told-5 : tie.Need-enum-told-5
 enum-told-5 c = search needs
 
--- src/lib.rt:398:24
 answer-requires-5 : tie.Need-answer-requires-5
 answer-requires-5 c κs = search needs
 
--- src/lib.rt:399:30
 enum-told-6 : tie.Need-enum-told-6
 enum-told-6 c = search needs
 
--- src/lib.rt:399:30
 answer-requires-6 : tie.Need-answer-requires-6
 answer-requires-6 c κs = search needs
 
--- src/lib.rt:400:24
 enum-told-7 : tie.Need-enum-told-7
 enum-told-7 c = search needs
 
--- src/lib.rt:400:24
 answer-requires-7 : tie.Need-answer-requires-7
 answer-requires-7 c κs = search needs
 
--- src/lib.rt:380:1
 same-length : tie.Need-same-length
 same-length c = search needs
 
--- src/lib.rt:380:1
 returns : tie.Need-returns
 returns c = given-paired _ _ _ _ _ (c .before .before .before .before .before .enum-told .given .1) (c .before .before .before .choose-columns .ensures .0) (toZ-ofZ {w = w64} (record { sfits = c .before .before .before .choose-columns .ok }) ∙ c .before .before .before .choose-columns .ensures .1) (c .answer .ensures)
 
--- src/lib.rt:380:1
 returns-2 : tie.Need-returns-2
 returns-2 c = given-blocked _ _ _ _ _ (c .before .before .before .enum-told2 .given .1) (c .before .before .uncovered-lines .ensures) (c .before .uncovered-lines2 .ensures) (c .answer2 .ensures)
 
--- src/lib.rt:380:1
 returns-3 : tie.Need-returns-3
 returns-3 c = given-unfinished _ _ _ _ _ (c .before .enum-told3 .given .1) (c .answer3 .ensures)
 
--- src/lib.rt:380:1
 returns-4 : tie.Need-returns-4
 returns-4 c = absurd (not-over (c .before .before .before .before .before .pre .4) (c .before .enum-told4 .given .1) refl)
 
--- src/lib.rt:380:1
 returns-5 : tie.Need-returns-5
 returns-5 c = absurd (not-over (c .before .before .before .before .before .pre .4) (c .before .enum-told5 .given .1) refl)
 
--- src/lib.rt:380:1
 returns-6 : tie.Need-returns-6
 returns-6 c = absurd (not-over (c .before .before .before .before .before .pre .4) (c .before .enum-told6 .given .1) refl)
 
--- src/lib.rt:380:1
 returns-7 : tie.Need-returns-7
 returns-7 c = absurd (not-over (c .before .before .before .before .before .pre .4) (c .before .enum-told7 .given .1) refl)
 

@@ -1,3 +1,4 @@
+-- `has_lengths` meets its contract, length by length.
 use native.Mathlib.Nat.{mul-le-mul}
 use native.Mathlib.Omega.{arith}
 use mathlib.Core.Path.{sym, _∙_}
@@ -6,38 +7,28 @@ use lib.ListN.{length-replicate}
 use Rattle.munkres.proofs.CallLaws.{wrong-length, last-length}
 use Rattle.munkres.proofs.has_lengths.Statement.{statement}
 use Rattle.munkres.proofs.has_lengths.Tie as tie
-use Rattle.munkres.proofs.has_lengths.Reads as reads
-use Rattle.munkres.proofs.has_lengths.Lts as lts
 
--- src/lib.rt:498:17
 mul-cells : tie.Need-mul-cells
 mul-cells c = omega (arith, mul-le-mul (c .pre) (c .pre))
 
--- src/lib.rt:500:9
 returns : tie.Need-returns
 returns c = wrong-length _ _ (λ r. c .if1 .taken (r .costs))
 
--- src/lib.rt:503:9
 returns-2 : tie.Need-returns-2
 returns-2 c = wrong-length _ _ (λ r. c .if2 .taken (r .mask))
 
--- src/lib.rt:506:9
 returns-3 : tie.Need-returns-3
 returns-3 c = wrong-length _ _ (λ r. c .if3 .taken (sym (length-replicate _ (pos 0)) ∙ r .working))
 
--- src/lib.rt:509:9
 returns-4 : tie.Need-returns-4
 returns-4 c = wrong-length _ _ (λ r. c .if4 .taken (sym (length-replicate _ 0) ∙ r .marks))
 
--- src/lib.rt:512:9
 returns-5 : tie.Need-returns-5
 returns-5 c = wrong-length _ _ (λ r. c .if5 .taken (sym (length-replicate _ 0) ∙ r .columns))
 
--- src/lib.rt:515:9
 returns-6 : tie.Need-returns-6
 returns-6 c = wrong-length _ _ (λ r. c .if6 .taken (sym (length-replicate _ (pos 0)) ∙ r .row-prices))
 
--- src/lib.rt:485:1
 returns-7 : tie.Need-returns-7
 returns-7 c =
     let a = c .before .before .before .before .before .before .args in

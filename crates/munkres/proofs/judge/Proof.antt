@@ -1,57 +1,41 @@
+-- `judge` meets its contract: rule after rule, what was found so far decides the verdict.
 use mathlib.Core.Path.{sym, _∙_}
 use borrow.Author.Tests.{not-true, not-false}
 use Rattle.munkres.proofs.CallLaws.{verdict-1, verdict-2, verdict-3, cells, as-many, verdict-4, verdict-5, verdict-dead, verdict-accepted}
 use borrow.Author.Needs.{needs}
 use Rattle.munkres.proofs.judge.Statement.{statement}
 use Rattle.munkres.proofs.judge.Tie as tie
-use Rattle.munkres.proofs.judge.Reads as reads
-use Rattle.munkres.proofs.judge.Lts as lts
-use Rattle.munkres.proofs.has_lengths.Reads as has-lengths-reads
-use Rattle.munkres.proofs.refusal.find_bad_cost.Reads as find-bad-cost-reads
-use Rattle.munkres.proofs.refusal.find_bad_mask.Reads as find-bad-mask-reads
-use Rattle.munkres.proofs.refusal.find_dead_row.Reads as find-dead-row-reads
 
--- src/lib.rt:534:9
 returns : tie.Need-returns
 returns c = verdict-1 _ _ (c .if1 .taken)
 
--- src/lib.rt:537:9
 returns-2 : tie.Need-returns-2
 returns-2 c = verdict-2 _ _ (c .before .if1 .left) (c .if2 .taken)
 
--- src/lib.rt:539:9
 has-lengths-requires : tie.Need-has-lengths-requires
 has-lengths-requires c κs = search needs
 
--- src/lib.rt:549:9
 returns-3 : tie.Need-returns-3
 returns-3 c = verdict-3 _ _ (c .before .before .before .if1 .left) (c .before .before .if2 .left) (sym (c .before .has-lengths .ensures) ∙ not-true _ (c .if3 .taken))
 
--- src/lib.rt:551:9
 find-bad-mask-requires : tie.Need-find-bad-mask-requires
 find-bad-mask-requires c κs = search needs
 
--- src/lib.rt:553:9
 returns-4 : tie.Need-returns-4
 returns-4 c = verdict-4 _ _ (c .before .before .before .before .before .if1 .left) (c .before .before .before .before .if2 .left) (sym (c .before .before .before .has-lengths .ensures) ∙ not-false _ (c .before .before .if3 .left)) _ (c .before .find-bad-mask .ensures) (c .if4 .taken)
 
--- src/lib.rt:555:9
 find-bad-cost-requires : tie.Need-find-bad-cost-requires
 find-bad-cost-requires c κs = as-many _ _ (c .before .before .before .before .before .if1 .left) (c .before .before .before .before .if2 .left) (sym (c .before .before .before .has-lengths .ensures) ∙ not-false _ (c .before .before .if3 .left))
 
--- src/lib.rt:557:9
 returns-5 : tie.Need-returns-5
 returns-5 c = verdict-5 _ _ (c .before .before .before .before .before .before .before .if1 .left) (c .before .before .before .before .before .before .if2 .left) (sym (c .before .before .before .before .before .has-lengths .ensures) ∙ not-false _ (c .before .before .before .before .if3 .left)) _ (c .before .before .before .find-bad-mask .ensures) (c .before .before .if4 .left) _ (c .before .find-bad-cost .ensures) (c .if5 .taken)
 
--- src/lib.rt:559:9
 find-dead-row-requires : tie.Need-find-dead-row-requires
 find-dead-row-requires c κs = record { small = c .before .before .before .before .before .before .if2 .left; size = cells _ _ (c .before .before .before .before .before .before .before .if1 .left) (c .before .before .before .before .before .before .if2 .left) (sym (c .before .before .before .before .before .has-lengths .ensures) ∙ not-false _ (c .before .before .before .before .if3 .left)) }
 
--- src/lib.rt:561:9
 returns-6 : tie.Need-returns-6
 returns-6 c = verdict-dead _ _ (c .before .before .before .before .before .before .before .before .before .if1 .left) (c .before .before .before .before .before .before .before .before .if2 .left) (sym (c .before .before .before .before .before .before .before .has-lengths .ensures) ∙ not-false _ (c .before .before .before .before .before .before .if3 .left)) _ (c .before .before .before .before .before .find-bad-mask .ensures) (c .before .before .before .before .if4 .left) _ (c .before .before .before .find-bad-cost .ensures) (c .before .before .if5 .left) _ (c .before .find-dead-row .ensures) (c .if6 .taken)
 
--- src/lib.rt:521:1
 returns-7 : tie.Need-returns-7
 returns-7 c = verdict-accepted _ _ (c .before .before .before .before .before .before .before .before .before .if1 .left) (c .before .before .before .before .before .before .before .before .if2 .left) (sym (c .before .before .before .before .before .before .before .has-lengths .ensures) ∙ not-false _ (c .before .before .before .before .before .before .if3 .left)) _ (c .before .before .before .before .before .find-bad-mask .ensures) (c .before .before .before .before .if4 .left) _ (c .before .before .before .find-bad-cost .ensures) (c .before .before .if5 .left) _ (c .before .find-dead-row .ensures) (c .if6 .left)
 

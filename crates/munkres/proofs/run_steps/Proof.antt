@@ -1,3 +1,4 @@
+-- `run_steps` meets its contract: some steps have led here and the machine is good (`Coming`); what is left to do falls with each step.
 use native.Mathlib.Omega.{arith}
 use mathlib.Core.Path.{sym, _∙_}
 use Rattle.steps.specs.Lent.{allows}
@@ -7,10 +8,6 @@ use Rattle.munkres.specs.View.{view}
 use Rattle.munkres.proofs.Arms.{Coming, coming-here, coming-next, coming-falls, came}
 use Rattle.munkres.proofs.run_steps.Statement.{statement}
 use Rattle.munkres.proofs.run_steps.Tie as tie
-use Rattle.munkres.proofs.run_steps.Reads as reads
-use Rattle.munkres.proofs.run_steps.Lts as lts
-use Rattle.munkres.proofs.is_over.Reads as is-over-reads
-use Rattle.munkres.proofs.step.Reads as step-reads
 
 abbrev Inv-loop : tie.InvT-loop
 Inv-loop n mask budget working₀ marks₀ row-prices₀ column-prices₀ state₀ working marks row-prices column-prices state =
@@ -20,45 +17,35 @@ abbrev μ-loop : tie.MeasureT-loop
 μ-loop n mask budget working₀ marks₀ row-prices₀ column-prices₀ state₀ working marks row-prices column-prices state =
     left n (allows n mask) (machine (view state) working marks row-prices column-prices)
 
--- src/lib.rt:300:5
 loop-holds : tie.Need-loop-holds Inv-loop μ-loop
 loop-holds c = coming-here (c .before .before .pre)
 
--- src/lib.rt:302:12
 is-over-requires : tie.Need-is-over-requires Inv-loop μ-loop
 is-over-requires c κs = tt
 
--- src/lib.rt:303:13
 same-length : tie.Need-same-length Inv-loop μ-loop
 same-length c = omega arith
 
--- src/lib.rt:303:13
 same-length-2 : tie.Need-same-length-2 Inv-loop μ-loop
 same-length-2 c = omega arith
 
--- src/lib.rt:303:13
 same-length-3 : tie.Need-same-length-3 Inv-loop μ-loop
 same-length-3 c = omega arith
 
--- src/lib.rt:303:13
 same-length-4 : tie.Need-same-length-4 Inv-loop μ-loop
 same-length-4 c = omega arith
 
--- src/lib.rt:303:13
 returns : tie.Need-returns Inv-loop μ-loop
 returns c = came (c .before .before .loop .inv) (sym (c .before .is-over .ensures) ∙ c .if1 .taken)
 
--- src/lib.rt:305:9
 step-requires : tie.Need-step-requires Inv-loop μ-loop
 step-requires c κs = c .before .before .before .before .before .before .loop .inv .good
 
--- src/lib.rt:300:5
 loop-less : tie.Need-loop-less Inv-loop μ-loop
 loop-less c =
     coming-falls (c .before .before .before .before .before .step .ensures) (c .before .before .before .before .before .before .before .before .before .before .before .before .loop .inv)
     (sym (c .before .before .before .before .before .before .before .before .before .before .before .is-over .ensures) ∙ c .before .before .before .before .before .before .before .before .before .before .if1 .left)
 
--- src/lib.rt:300:5
 loop-again : tie.Need-loop-again Inv-loop μ-loop
 loop-again c = coming-next (c .before .before .before .before .before .step .ensures) (c .before .before .before .before .before .before .before .before .before .before .before .before .loop .inv)
 

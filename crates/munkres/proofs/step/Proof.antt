@@ -1,3 +1,4 @@
+-- `step` meets its contract: each arm is one step's own equation (`Arms`).
 use mathlib.Core.Path.{ap}
 use Rattle.steps.proofs.Runs.{over}
 use Rattle.munkres.specs.View.{view-next}
@@ -6,111 +7,80 @@ use Rattle.munkres.proofs.Arms.{arm-3, arm-4, arm-5, arm-6, arm-end}
 use borrow.Author.Needs.{needs}
 use Rattle.munkres.proofs.step.Statement.{statement}
 use Rattle.munkres.proofs.step.Tie as tie
-use Rattle.munkres.proofs.step.Reads as reads
-use Rattle.munkres.proofs.step.Lts as lts
-use Rattle.munkres.proofs.step_3.Reads as step-3-reads
-use Rattle.munkres.proofs.step_4.Reads as step-4-reads
-use Rattle.munkres.proofs.step_5.Reads as step-5-reads
-use Rattle.munkres.proofs.step_6.Reads as step-6-reads
 
--- src/lib.rt:269:39
 enum-told : tie.Need-enum-told
 enum-told c = search needs
 
--- src/lib.rt:269:24
 step-3-requires : tie.Need-step-3-requires
 step-3-requires c κs = let g = c .before .before .before .before .before .pre in (square-marks g, at-step3 g (ap view-next (c .before .enum-told .given .1)))
 
--- src/lib.rt:270:45
 enum-told-2 : tie.Need-enum-told-2
 enum-told-2 c = search needs
 
--- src/lib.rt:270:24
 step-4-requires : tie.Need-step-4-requires
 step-4-requires c κs = let g = c .before .before .before .before .before .before .pre in (square-mask g, square-working g, square-marks g, at-step4 g (ap view-next (c .before .before .enum-told2 .given .1)))
 
--- src/lib.rt:271:21
 enum-known-next : tie.Need-enum-known-next
 enum-known-next c = search needs
 
--- src/lib.rt:271:37
 step-5-requires : tie.Need-step-5-requires
 step-5-requires c κs = let g = c .before .before .before .before .before .before .pre in let e = ap view-next (c .before .before .next .given .1) in (square-marks g, at-path g _ _ e, at-step5 g _ _ e)
 
--- src/lib.rt:272:53
 enum-told-3 : tie.Need-enum-told-3
 enum-told-3 c = search needs
 
--- src/lib.rt:272:24
 step-6-requires : tie.Need-step-6-requires
 step-6-requires c κs = let g = c .before .before .before .before .before .before .before .pre in
     (square-mask g, square-working g, g .fresh .shape .row-prices, g .fresh .shape .column-prices, g .spare, at-step6 g (ap view-next (c .before .before .before .enum-told3 .given .1)))
 
--- src/lib.rt:273:25
 enum-told-4 : tie.Need-enum-told-4
 enum-told-4 c = search needs
 
--- src/lib.rt:274:28
 enum-told-5 : tie.Need-enum-told-5
 enum-told-5 c = search needs
 
--- src/lib.rt:275:29
 enum-told-6 : tie.Need-enum-told-6
 enum-told-6 c = search needs
 
--- src/lib.rt:262:1
 same-length : tie.Need-same-length
 same-length c = search needs
 
--- src/lib.rt:262:1
 returns : tie.Need-returns
 returns c = arm-3 _ _ _ _ (ap view-next (c .before .before .enum-told .given .1)) (c .step-3 .ensures)
 
--- src/lib.rt:262:1
 same-length-2 : tie.Need-same-length-2
 same-length-2 c = search needs
 
--- src/lib.rt:262:1
 same-length-3 : tie.Need-same-length-3
 same-length-3 c = search needs
 
--- src/lib.rt:262:1
 returns-2 : tie.Need-returns-2
 returns-2 c = arm-4 _ _ _ _ (ap view-next (c .before .before .before .before .before .enum-told2 .given .1)) (c .before .before .step-4 .ensures)
 
--- src/lib.rt:262:1
 same-length-4 : tie.Need-same-length-4
 same-length-4 c = search needs
 
--- src/lib.rt:262:1
 returns-3 : tie.Need-returns-3
 returns-3 c = arm-5 _ _ _ _ (ap view-next (c .before .before .before .before .before .next .given .1)) (c .before .before .step-5 .ensures)
 
--- src/lib.rt:262:1
 same-length-5 : tie.Need-same-length-5
 same-length-5 c = search needs
 
--- src/lib.rt:262:1
 same-length-6 : tie.Need-same-length-6
 same-length-6 c = search needs
 
--- src/lib.rt:262:1
 same-length-7 : tie.Need-same-length-7
 same-length-7 c = search needs
 
--- src/lib.rt:262:1
 returns-4 : tie.Need-returns-4
 returns-4 c = arm-6 _ _ _ _ (ap view-next (c .before .before .before .before .before .before .before .enum-told3 .given .1)) (c .before .before .before .step-6 .ensures)
 
--- src/lib.rt:262:1
 returns-5 : tie.Need-returns-5
 returns-5 c = arm-end _ _ _ _ (ap (λ x. over (view-next x)) (c .enum-told4 .given .1))
 
--- src/lib.rt:262:1
 returns-6 : tie.Need-returns-6
 returns-6 c = arm-end _ _ _ _ (ap (λ x. over (view-next x)) (c .enum-told5 .given .1))
 
--- src/lib.rt:262:1
 returns-7 : tie.Need-returns-7
 returns-7 c = arm-end _ _ _ _ (ap (λ x. over (view-next x)) (c .enum-told6 .given .1))
 

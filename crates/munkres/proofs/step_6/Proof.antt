@@ -1,3 +1,4 @@
+-- `step_6` meets its contract, by what was found: no uncovered value, a spent budget, or a value to adjust by.
 use native.Mathlib.Omega.{arith}
 use mathlib.Core.Path.{sym, _∙_}
 use Rattle.steps.specs.Steps.{lowest}
@@ -7,36 +8,24 @@ use Rattle.munkres.proofs.StepLaws.{back, step6-none, step6-spent, step
 use borrow.Author.Needs.{needs}
 use Rattle.munkres.proofs.step_6.Statement.{statement}
 use Rattle.munkres.proofs.step_6.Tie as tie
-use Rattle.munkres.proofs.step_6.Reads as reads
-use Rattle.munkres.proofs.step_6.Lts as lts
-use Rattle.munkres.proofs.weight_matrix.follow_prices.Reads as follow-prices-reads
-use Rattle.munkres.proofs.weight_matrix.least_uncovered.Reads as least-uncovered-reads
-use Rattle.munkres.proofs.weight_matrix.lower_prices.Reads as lower-prices-reads
-use Rattle.munkres.proofs.weight_matrix.raise_prices.Reads as raise-prices-reads
 
--- src/lib.rt:225:9
 least-uncovered-requires : tie.Need-least-uncovered-requires
 least-uncovered-requires c κs = search needs
 
--- src/lib.rt:233:19
 enum-told : tie.Need-enum-told
 enum-told c = search needs
 
--- src/lib.rt:235:37
 enum-known-least : tie.Need-enum-known-least
 enum-known-least c = search needs
 
--- src/lib.rt:238:17
 same-length : tie.Need-same-length
 same-length c = search needs
 
--- src/lib.rt:238:17
 returns : tie.Need-returns
 unfolding lowest
 returns c =
     step6-spent (c .before .before .before .before .before .before .before .args .n) _ _ (view (c .before .before .before .before .before .before .before .args .run)) _ _ _ (value-found _ _ _ _ (sym (c .before .before .before .before .least-uncovered .ensures) ∙ c .before .before .least .given .1) .0) (c .if1 .taken)
 
--- src/lib.rt:247:13
 follow-prices-requires : tie.Need-follow-prices-requires
 unfolding lowest
 follow-prices-requires c κs =
@@ -45,7 +34,6 @@ follow-prices-requires c κs =
     let e = back _ _ (v .1) (a .0) in
     (c .before .before .before .before .before .before .before .before .pre .0, c .before .before .before .before .before .before .before .before .pre .1, rw e (a .0), rw e (a .1))
 
--- src/lib.rt:248:13
 lower-prices-requires : tie.Need-lower-prices-requires
 unfolding lowest
 lower-prices-requires c κs =
@@ -54,7 +42,6 @@ lower-prices-requires c κs =
     let e = back _ _ (v .1) (a .0) in
     (omega (arith, c .before .before .before .before .before .before .before .before .before .before .before .pre .2, c .before .before .before .before .before .before .before .before .before .before .before .pre .0 .small), rw e (a .0), rw e (a .2))
 
--- src/lib.rt:249:13
 raise-prices-requires : tie.Need-raise-prices-requires
 unfolding lowest
 raise-prices-requires c κs =
@@ -63,33 +50,26 @@ raise-prices-requires c κs =
     let e = back _ _ (v .1) (a .0) in
     (omega (arith, c .before .before .before .before .before .before .before .before .before .before .before .before .before .before .pre .3, c .before .before .before .before .before .before .before .before .before .before .before .before .before .before .pre .0 .small), rw e (a .0), rw e (a .3))
 
--- src/lib.rt:253:30
 add-t26 : tie.Need-add-t26
 add-t26 c = search needs
 
--- src/lib.rt:217:1
 same-length-2 : tie.Need-same-length-2
 same-length-2 c = search needs
 
--- src/lib.rt:217:1
 returns-2 : tie.Need-returns-2
 unfolding lowest
 returns-2 c =
     step6-none (c .before .before .before .before .before .args .n) _ _ (view (c .before .before .before .before .before .args .run)) _ _ _ (value-none _ _ _ (sym (c .before .before .least-uncovered .ensures) ∙ c .enum-told .given .1))
 
--- src/lib.rt:217:1
 same-length-3 : tie.Need-same-length-3
 same-length-3 c = search needs
 
--- src/lib.rt:217:1
 same-length-4 : tie.Need-same-length-4
 same-length-4 c = search needs
 
--- src/lib.rt:217:1
 same-length-5 : tie.Need-same-length-5
 same-length-5 c = search needs
 
--- src/lib.rt:217:1
 returns-3 : tie.Need-returns-3
 unfolding lowest
 returns-3 c =
