@@ -21,11 +21,6 @@ pub and-right : (x y : Bool) → T (x && y) → T y
 and-right true y t = t
 and-right false y t = absurd t
 
--- what fails in its second part fails
-pub and-no : (x y : Bool) → y ≡ false → T (not (x && y))
-and-no true y e = rw e tt
-and-no false y e = tt
-
 pub T-yes : (b : Bool) → (T (not b) → ⊥) → T b
 T-yes true f = tt
 T-yes false f = f tt

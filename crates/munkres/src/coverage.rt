@@ -1,4 +1,4 @@
-// Covered lines: a set of rows or of columns is one 64-bit word, bit i for line i; and step 4's search among the uncovered cells.
+// Covered lines: a set of rows or of columns is one 64-bit word, bit i for line i; and the searches for uncovered zeros, along a row for step 2, column by column for step 4.
 ghost use mathlib.Core.Path.{_≡_};
 ghost use mathlib.Core.Bool.{not, _&&_};
 ghost use Prim.Native.Nat.{_<_, _≤_};
@@ -51,6 +51,30 @@ pub(crate) fn uncovered_lines(n: usize, lines: u64) -> u64
     ensures { λ r. ⌜ r ≡ rest n lines ⌝ }
 {
     !lines & all_lines(n)
+}
+
+// The row's first zero in a column that is not taken, or n.
+pub(crate) fn find_zero_in_row(
+    n: usize,
+    mask: &[u8],
+    working: &[i64],
+    taken: u64,
+    row: usize,
+) -> usize
+    requires { ⌜ Square n (now mask) × Square n (now working) × (row < n) ⌝ }
+    ensures { λ r. ⌜ r ≡ first (λ j. zero-at n (allows n (now (mask .entry))) (now (working .entry)) row j && not (has taken j)) n ⌝ }
+{
+    let start = row * n;
+    let mut column = 0;
+    while column < n {
+        if !is_covered(taken, column) {
+            if weight_matrix::is_element_zero(mask, working, start + column) {
+                return column;
+            }
+        }
+        column += 1;
+    }
+    n
 }
 
 // The first uncovered row with a zero in the column, or n.

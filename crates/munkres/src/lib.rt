@@ -58,24 +58,6 @@ enum Verdict {
 
 // ---- step 2
 
-// The row's first zero in a column that is not taken, or n.
-fn find_free_zero(n: usize, mask: &[u8], working: &[i64], taken: u64, row: usize) -> usize
-    requires { ⌜ Square n (now mask) × Square n (now working) × (row < n) ⌝ }
-    ensures { λ r. ⌜ r ≡ first (λ j. zero-at n (allows n (now (mask .entry))) (now (working .entry)) row j && not (has taken j)) n ⌝ }
-{
-    let start = row * n;
-    let mut column = 0;
-    while column < n {
-        if !coverage::is_covered(taken, column) {
-            if weight_matrix::is_element_zero(mask, working, start + column) {
-                return column;
-            }
-        }
-        column += 1;
-    }
-    n
-}
-
 fn clear_marks(marks: &mut [u8])
     ensures { λ _. ⌜ now (marks .exit) ≡ table (λ k. 0) (length (now (marks .entry))) ⌝ }
 {
@@ -104,7 +86,7 @@ fn step_2(n: usize, mask: &[u8], working: &[i64], marks: &mut [u8])
     let mut taken = 0u64;
     let mut row = 0;
     while row < n {
-        let column = find_free_zero(n, mask, working, taken, row);
+        let column = coverage::find_zero_in_row(n, mask, working, taken, row);
         if column < n {
             marks[row * n + column] = 1;
             taken = coverage::cover(taken, column);

@@ -20,12 +20,12 @@ abbrev μ-loop : tie.MeasureT-loop
 loop-holds : tie.Need-loop-holds Inv-loop μ-loop
 loop-holds c = (search needs, taken-none _ _ _ _ (c .before .before .pre .2))
 
-find-free-zero-requires : tie.Need-find-free-zero-requires Inv-loop μ-loop
-find-free-zero-requires c κs = search needs
+find-zero-in-row-requires : tie.Need-find-zero-in-row-requires Inv-loop μ-loop
+find-zero-in-row-requires c κs = search needs
 
 -- the star's place is in the square
 place : (c : tie.Then1 Inv-loop μ-loop)
-    → let n = c .before .before .before .before .before .before .args .n in c .before .before .before .loop .row * n + c .before .find-free-zero .result < n * n
+    → let n = c .before .before .before .before .before .before .args .n in c .before .before .before .loop .row * n + c .before .find-zero-in-row .result < n * n
 place c = place-lt _ _ _ (c .before .before .loop-test .taken) (c .if1 .taken)
 
 mul-marks : tie.Need-mul-marks Inv-loop μ-loop
@@ -50,7 +50,7 @@ loop-again : tie.Need-loop-again Inv-loop μ-loop
 loop-again c =
     let b = c .before .before .before in
     let l = b .loop in
-    let found = c .before .find-free-zero .ensures in
+    let found = c .before .find-zero-in-row .ensures in
     let h = c .before .before .loop-test .taken in (
       search needs,
       ⊎-elim
@@ -75,7 +75,7 @@ step-2-spec =
     Inv-loop
     μ-loop
     loop-holds
-    find-free-zero-requires
+    find-zero-in-row-requires
     mul-marks
     add-marks
     slice-write-marks
