@@ -1,0 +1,16 @@
+//! Links libserbihun.a, which `rt staticlib serbihun` makes. SERBIHUN_LIB_DIR names its folder; else it is target/staticlib of the project.
+use std::path::PathBuf;
+
+fn main() {
+    println!("cargo:rerun-if-env-changed=SERBIHUN_LIB_DIR");
+    let folder = match std::env::var_os("SERBIHUN_LIB_DIR") {
+        Some(named) => PathBuf::from(named),
+        None => PathBuf::from(env!("CARGO_MANIFEST_DIR")).join("../../target/staticlib"),
+    };
+    println!(
+        "cargo:rerun-if-changed={}",
+        folder.join("libserbihun.a").display()
+    );
+    println!("cargo:rustc-link-search=native={}", folder.display());
+    println!("cargo:rustc-link-lib=static=serbihun");
+}

@@ -1,0 +1,65 @@
+//! The one call across: the C function of include/serbihun.h, over slices.
+use crate::Buffers;
+
+#[cfg(not(all(target_arch = "x86_64", target_os = "linux")))]
+compile_error!("libserbihun.a is for x86-64 Linux");
+
+/// Field for field `struct serbihun_answer`.
+#[repr(C)]
+pub struct Answer {
+    pub number: u32,
+    pub place: usize,
+    pub total: i64,
+    pub adjustments: u32,
+    pub primes: u32,
+    pub augmentations: u32,
+    pub block_rows: u64,
+    pub block_columns: u64,
+}
+
+extern "C" {
+    // each pointer with the number of its elements
+    fn serbihun_solve(
+        n: usize,
+        costs: *const u8,
+        costs_length: usize,
+        mask: *const u8,
+        mask_length: usize,
+        budget: u32,
+        working: *mut i64,
+        working_length: usize,
+        marks: *mut u8,
+        marks_length: usize,
+        columns: *mut u16,
+        columns_length: usize,
+        row_prices: *mut i64,
+        row_prices_length: usize,
+        column_prices: *mut i64,
+        column_prices_length: usize,
+    ) -> Answer;
+}
+
+pub fn solve(n: usize, costs: &[i32], mask: &[u8], budget: u32, buffers: &mut Buffers) -> Answer {
+    // SAFETY: every pointer comes from a slice with its length, so it is aligned and not null; the five that are written
+    // come from vectors of their own. x86-64 is little-endian: a cost in memory is the four bytes that the function reads.
+    unsafe {
+        serbihun_solve(
+            n,
+            costs.as_ptr().cast::<u8>(),
+            std::mem::size_of_val(costs),
+            mask.as_ptr(),
+            mask.len(),
+            budget,
+            buffers.working.as_mut_ptr(),
+            buffers.working.len(),
+            buffers.marks.as_mut_ptr(),
+            buffers.marks.len(),
+            buffers.columns.as_mut_ptr(),
+            buffers.columns.len(),
+            buffers.row_prices.as_mut_ptr(),
+            buffers.row_prices.len(),
+            buffers.column_prices.as_mut_ptr(),
+            buffers.column_prices.len(),
+        )
+    }
+}
