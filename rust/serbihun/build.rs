@@ -1,9 +1,9 @@
-//! Links libserbihun.a, which `rt staticlib serbihun` makes. SERBIHUN_LIB_DIR names its folder; else it is target/staticlib of the project.
+//! Links libserbihun.a, which `rt staticlib serbihun` makes. SERBIHUN_LIB names its folder; else it is target/staticlib of the project.
 use std::path::PathBuf;
 
 fn main() {
-    println!("cargo:rerun-if-env-changed=SERBIHUN_LIB_DIR");
-    let folder = match std::env::var_os("SERBIHUN_LIB_DIR") {
+    println!("cargo:rerun-if-env-changed=SERBIHUN_LIB");
+    let folder = match std::env::var_os("SERBIHUN_LIB") {
         Some(named) => PathBuf::from(named),
         None => PathBuf::from(env!("CARGO_MANIFEST_DIR")).join("../../target/staticlib"),
     };
