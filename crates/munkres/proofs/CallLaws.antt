@@ -108,9 +108,10 @@ module _ (t : Task) (b : Buffers) where
             costs : first (R.bad-cost (t .costs) (t .mask)) (t .n * t .n) ≡ l
             costs = rw cells at (sym el)
 
-            pub verdict-dead : (i : ℕ) → i ≡ first (R.dead-row (t .n) (t .mask)) (t .n) → i < t .n → R.dead i ≡ R.verdict t 64 b
+            -- so the rows decide
+            by-rows : let i = first (R.dead-row (t .n) (t .mask)) (t .n) in R.verdict t 64 b ≡ cond (ltb i (t .n)) (R.dead i) R.accepted
             unfolding R.verdict any
-            verdict-dead i e h =
+            by-rows =
                 rw (
                   T-false (eqb (t .n) 0) (eqb-no (t .n) 0 some),
                   le-ltb 64 (t .n) most,
@@ -119,24 +120,13 @@ module _ (t : Task) (b : Buffers) where
                   le-ltb k (t .n * t .n) (omega (arith, cells)),
                   costs,
                   le-ltb l (t .n * t .n) (omega (arith, cells)),
-                  ← e,
-                  lt-ltb i (t .n) h,
                 )
 
+            pub verdict-dead : (i : ℕ) → i ≡ first (R.dead-row (t .n) (t .mask)) (t .n) → i < t .n → R.dead i ≡ R.verdict t 64 b
+            verdict-dead i e h = rw (by-rows, ← e, lt-ltb i (t .n) h)
+
             pub verdict-accepted : (i : ℕ) → i ≡ first (R.dead-row (t .n) (t .mask)) (t .n) → t .n ≤ i → R.accepted ≡ R.verdict t 64 b
-            unfolding R.verdict any
-            verdict-accepted i e h =
-                rw (
-                  T-false (eqb (t .n) 0) (eqb-no (t .n) 0 some),
-                  le-ltb 64 (t .n) most,
-                  sizes,
-                  masks,
-                  le-ltb k (t .n * t .n) (omega (arith, cells)),
-                  costs,
-                  le-ltb l (t .n * t .n) (omega (arith, cells)),
-                  ← e,
-                  le-ltb i (t .n) h,
-                )
+            verdict-accepted i e h = rw (by-rows, ← e, le-ltb i (t .n) h)
 
 -- ---- the lengths, one by one, where the written buffers are known by their lengths
 

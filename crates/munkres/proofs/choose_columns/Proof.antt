@@ -49,7 +49,8 @@ star c =
 cost-added : (c : tie.After-sum Inv-loop μ-loop)
     → let a = c .before .before .before .before .before .before .args in
     let l = c .before .before .before .loop in
-    Added (star-cost (a .n) (a .costs .now) (a .marks .now)) (l .sum) (l .row) (getD (a .costs .now) (l .row * a .n + c .before .find-first-star-in-row .result) (pos 0))
+    Added (star-cost (a .n) (a .costs .now) (a .marks .now)) (l .sum) (l .row)
+    (getD (a .costs .now) (l .row * a .n + c .before .find-first-star-in-row .result) (pos 0))
 unfolding cost-at
 cost-added c =
     let s = c .before .before .before .before .before .before in

@@ -12,7 +12,10 @@ enum-told : tie.Need-enum-told
 enum-told c = search needs
 
 choose-columns-requires : tie.Need-choose-columns-requires
-choose-columns-requires c κs = let p = c .before .before .before .before .before .pre in let h = p .5 (ap view-next (c .before .enum-told .given .1)) in (p .0, p .1, p .2, (λ i hi. h i hi .0), λ i hi. h i hi .1)
+choose-columns-requires c κs =
+    let p = c .before .before .before .before .before .pre in
+    let h = p .5 (ap view-next (c .before .enum-told .given .1)) in
+    (p .0, p .1, p .2, (λ i hi. h i hi .0), λ i hi. h i hi .1)
 
 answer-requires : tie.Need-answer-requires
 answer-requires c κs = search needs
@@ -63,10 +66,15 @@ same-length : tie.Need-same-length
 same-length c = search needs
 
 returns : tie.Need-returns
-returns c = given-paired _ _ _ _ _ (c .before .before .before .before .before .enum-told .given .1) (c .before .before .before .choose-columns .ensures .0) (toZ-ofZ {w = w64} (record { sfits = c .before .before .before .choose-columns .ok }) ∙ c .before .before .before .choose-columns .ensures .1) (c .answer .ensures)
+returns c =
+    given-paired _ _ _ _ _ (c .before .before .before .before .before .enum-told .given .1) (c .before .before .before .choose-columns .ensures .0)
+    (toZ-ofZ {w = w64} (record { sfits = c .before .before .before .choose-columns .ok }) ∙ c .before .before .before .choose-columns .ensures .1)
+    (c .answer .ensures)
 
 returns-2 : tie.Need-returns-2
-returns-2 c = given-blocked _ _ _ _ _ (c .before .before .before .enum-told2 .given .1) (c .before .before .uncovered-lines .ensures) (c .before .uncovered-lines2 .ensures) (c .answer2 .ensures)
+returns-2 c =
+    given-blocked _ _ _ _ _ (c .before .before .before .enum-told2 .given .1) (c .before .before .uncovered-lines .ensures)
+    (c .before .uncovered-lines2 .ensures) (c .answer2 .ensures)
 
 returns-3 : tie.Need-returns-3
 returns-3 c = given-unfinished _ _ _ _ _ (c .before .enum-told3 .given .1) (c .answer3 .ensures)

@@ -32,7 +32,9 @@ returns-6 c = wrong-length _ _ (λ r. c .if6 .taken (sym (length-replicate _ (po
 returns-7 : tie.Need-returns-7
 returns-7 c =
     let a = c .before .before .before .before .before .before .args in
-    last-length (a .n) _ _ (a .working) (a .marks) (a .columns) (a .row-prices) (a .column-prices) (c .before .before .before .before .before .if1 .left) (c .before .before .before .before .if2 .left) (c .before .before .before .if3 .left) (c .before .before .if4 .left) (c .before .if5 .left) (c .if6 .left)
+    last-length (a .n) _ _ (a .working) (a .marks) (a .columns) (a .row-prices) (a .column-prices)
+    (c .before .before .before .before .before .if1 .left) (c .before .before .before .before .if2 .left) (c .before .before .before .if3 .left)
+    (c .before .before .if4 .left) (c .before .if5 .left) (c .if6 .left)
 
 pub has-lengths-spec : {M : Type 1} → statement M
 has-lengths-spec =

@@ -16,28 +16,51 @@ has-lengths-requires : tie.Need-has-lengths-requires
 has-lengths-requires c κs = search needs
 
 returns-3 : tie.Need-returns-3
-returns-3 c = verdict-3 _ _ (c .before .before .before .if1 .left) (c .before .before .if2 .left) (sym (c .before .has-lengths .ensures) ∙ not-true _ (c .if3 .taken))
+returns-3 c =
+    verdict-3 _ _ (c .before .before .before .if1 .left) (c .before .before .if2 .left)
+    (sym (c .before .has-lengths .ensures) ∙ not-true _ (c .if3 .taken))
 
 find-bad-mask-requires : tie.Need-find-bad-mask-requires
 find-bad-mask-requires c κs = search needs
 
 returns-4 : tie.Need-returns-4
-returns-4 c = verdict-4 _ _ (c .before .before .before .before .before .if1 .left) (c .before .before .before .before .if2 .left) (sym (c .before .before .before .has-lengths .ensures) ∙ not-false _ (c .before .before .if3 .left)) _ (c .before .find-bad-mask .ensures) (c .if4 .taken)
+returns-4 c =
+    verdict-4 _ _ (c .before .before .before .before .before .if1 .left) (c .before .before .before .before .if2 .left)
+    (sym (c .before .before .before .has-lengths .ensures) ∙ not-false _ (c .before .before .if3 .left)) _ (c .before .find-bad-mask .ensures)
+    (c .if4 .taken)
 
 find-bad-cost-requires : tie.Need-find-bad-cost-requires
-find-bad-cost-requires c κs = as-many _ _ (c .before .before .before .before .before .if1 .left) (c .before .before .before .before .if2 .left) (sym (c .before .before .before .has-lengths .ensures) ∙ not-false _ (c .before .before .if3 .left))
+find-bad-cost-requires c κs =
+    as-many _ _ (c .before .before .before .before .before .if1 .left) (c .before .before .before .before .if2 .left)
+    (sym (c .before .before .before .has-lengths .ensures) ∙ not-false _ (c .before .before .if3 .left))
 
 returns-5 : tie.Need-returns-5
-returns-5 c = verdict-5 _ _ (c .before .before .before .before .before .before .before .if1 .left) (c .before .before .before .before .before .before .if2 .left) (sym (c .before .before .before .before .before .has-lengths .ensures) ∙ not-false _ (c .before .before .before .before .if3 .left)) _ (c .before .before .before .find-bad-mask .ensures) (c .before .before .if4 .left) _ (c .before .find-bad-cost .ensures) (c .if5 .taken)
+returns-5 c =
+    verdict-5 _ _ (c .before .before .before .before .before .before .before .if1 .left)
+    (c .before .before .before .before .before .before .if2 .left)
+    (sym (c .before .before .before .before .before .has-lengths .ensures) ∙ not-false _ (c .before .before .before .before .if3 .left)) _
+    (c .before .before .before .find-bad-mask .ensures) (c .before .before .if4 .left) _ (c .before .find-bad-cost .ensures) (c .if5 .taken)
 
 find-dead-row-requires : tie.Need-find-dead-row-requires
-find-dead-row-requires c κs = record { small = c .before .before .before .before .before .before .if2 .left; size = cells _ _ (c .before .before .before .before .before .before .before .if1 .left) (c .before .before .before .before .before .before .if2 .left) (sym (c .before .before .before .before .before .has-lengths .ensures) ∙ not-false _ (c .before .before .before .before .if3 .left)) }
+find-dead-row-requires c κs =
+    record
+    { small = c .before .before .before .before .before .before .if2 .left; size = cells _ _ (c .before .before .before .before .before .before .before .if1 .left) (c .before .before .before .before .before .before .if2 .left) (sym (c .before .before .before .before .before .has-lengths .ensures) ∙ not-false _ (c .before .before .before .before .if3 .left)) }
 
 returns-6 : tie.Need-returns-6
-returns-6 c = verdict-dead _ _ (c .before .before .before .before .before .before .before .before .before .if1 .left) (c .before .before .before .before .before .before .before .before .if2 .left) (sym (c .before .before .before .before .before .before .before .has-lengths .ensures) ∙ not-false _ (c .before .before .before .before .before .before .if3 .left)) _ (c .before .before .before .before .before .find-bad-mask .ensures) (c .before .before .before .before .if4 .left) _ (c .before .before .before .find-bad-cost .ensures) (c .before .before .if5 .left) _ (c .before .find-dead-row .ensures) (c .if6 .taken)
+returns-6 c =
+    verdict-dead _ _ (c .before .before .before .before .before .before .before .before .before .if1 .left)
+    (c .before .before .before .before .before .before .before .before .if2 .left)
+    (sym (c .before .before .before .before .before .before .before .has-lengths .ensures) ∙ not-false _ (c .before .before .before .before .before .before .if3 .left))
+    _ (c .before .before .before .before .before .find-bad-mask .ensures) (c .before .before .before .before .if4 .left) _
+    (c .before .before .before .find-bad-cost .ensures) (c .before .before .if5 .left) _ (c .before .find-dead-row .ensures) (c .if6 .taken)
 
 returns-7 : tie.Need-returns-7
-returns-7 c = verdict-accepted _ _ (c .before .before .before .before .before .before .before .before .before .if1 .left) (c .before .before .before .before .before .before .before .before .if2 .left) (sym (c .before .before .before .before .before .before .before .has-lengths .ensures) ∙ not-false _ (c .before .before .before .before .before .before .if3 .left)) _ (c .before .before .before .before .before .find-bad-mask .ensures) (c .before .before .before .before .if4 .left) _ (c .before .before .before .find-bad-cost .ensures) (c .before .before .if5 .left) _ (c .before .find-dead-row .ensures) (c .if6 .left)
+returns-7 c =
+    verdict-accepted _ _ (c .before .before .before .before .before .before .before .before .before .if1 .left)
+    (c .before .before .before .before .before .before .before .before .if2 .left)
+    (sym (c .before .before .before .before .before .before .before .has-lengths .ensures) ∙ not-false _ (c .before .before .before .before .before .before .if3 .left))
+    _ (c .before .before .before .before .before .find-bad-mask .ensures) (c .before .before .before .before .if4 .left) _
+    (c .before .before .before .find-bad-cost .ensures) (c .before .before .if5 .left) _ (c .before .find-dead-row .ensures) (c .if6 .left)
 
 pub judge-spec : {M : Type 1} → statement M
 judge-spec =

@@ -43,11 +43,14 @@ step-requires c κs = c .before .before .before .before .before .before .loop .i
 
 loop-less : tie.Need-loop-less Inv-loop μ-loop
 loop-less c =
-    coming-falls (c .before .before .before .before .before .step .ensures) (c .before .before .before .before .before .before .before .before .before .before .before .before .loop .inv)
+    coming-falls (c .before .before .before .before .before .step .ensures)
+    (c .before .before .before .before .before .before .before .before .before .before .before .before .loop .inv)
     (sym (c .before .before .before .before .before .before .before .before .before .before .before .is-over .ensures) ∙ c .before .before .before .before .before .before .before .before .before .before .if1 .left)
 
 loop-again : tie.Need-loop-again Inv-loop μ-loop
-loop-again c = coming-next (c .before .before .before .before .before .step .ensures) (c .before .before .before .before .before .before .before .before .before .before .before .before .loop .inv)
+loop-again c =
+    coming-next (c .before .before .before .before .before .step .ensures)
+    (c .before .before .before .before .before .before .before .before .before .before .before .before .loop .inv)
 
 pub run-steps-spec : {M : Type 1} → statement M
 run-steps-spec =

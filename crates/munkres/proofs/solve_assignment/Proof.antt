@@ -22,7 +22,9 @@ cover-requires : tie.Need-cover-requires
 cover-requires c κs = let d = dead-place _ _ (c .before .before .before .judge .ensures) (c .before .verdict2 .given .1) in omega (arith, d .0, d .1)
 
 all-lines-requires : tie.Need-all-lines-requires
-all-lines-requires c κs = let d = dead-place _ _ (c .before .before .before .before .judge .ensures) (c .before .before .verdict2 .given .1) in (omega (arith, d .0), d .1)
+all-lines-requires c κs =
+    let d = dead-place _ _ (c .before .before .before .before .judge .ensures) (c .before .before .verdict2 .given .1) in
+    (omega (arith, d .0), d .1)
 
 refused-requires-2 : tie.Need-refused-requires-2
 refused-requires-2 c κs = search needs
@@ -31,13 +33,19 @@ enum-told : tie.Need-enum-told
 enum-told c = search needs
 
 solve-requires : tie.Need-solve-requires
-solve-requires c κs = (verdict-is _ _ _ _ _ (c .before .before .before .before .before .before .before .judge .ensures) (c .before .before .before .before .before .enum-told .given .1))
+solve-requires c κs =
+    (verdict-is _ _ _ _ _ (c .before .before .before .before .before .before .before .judge .ensures) (c .before .before .before .before .before .enum-told .given .1))
 
 returns : tie.Need-returns
-returns c = refused-promise _ _ _ _ _ (verdict-is _ _ _ _ _ (c .before .before .before .before .judge .ensures) (c .before .before .verdict .given .1)) (c .refused .ensures)
+returns c =
+    refused-promise _ _ _ _ _ (verdict-is _ _ _ _ _ (c .before .before .before .before .judge .ensures) (c .before .before .verdict .given .1))
+    (c .refused .ensures)
 
 returns-2 : tie.Need-returns-2
-returns-2 c = dead-promise _ _ _ _ _ (verdict-is _ _ _ _ _ (c .before .before .before .before .before .before .judge .ensures) (c .before .before .before .before .verdict2 .given .1)) (c .before .before .cover .ensures) (c .before .all-lines .ensures) (c .refused2 .ensures)
+returns-2 c =
+    dead-promise _ _ _ _ _
+    (verdict-is _ _ _ _ _ (c .before .before .before .before .before .before .judge .ensures) (c .before .before .before .before .verdict2 .given .1))
+    (c .before .before .cover .ensures) (c .before .all-lines .ensures) (c .refused2 .ensures)
 
 same-length : tie.Need-same-length
 same-length c = search needs

@@ -18,13 +18,18 @@ enum-told-2 : tie.Need-enum-told-2
 enum-told-2 c = search needs
 
 step-4-requires : tie.Need-step-4-requires
-step-4-requires c κs = let g = c .before .before .before .before .before .before .pre in (square-mask g, square-working g, square-marks g, at-step4 g (ap view-next (c .before .before .enum-told2 .given .1)))
+step-4-requires c κs =
+    let g = c .before .before .before .before .before .before .pre in
+    (square-mask g, square-working g, square-marks g, at-step4 g (ap view-next (c .before .before .enum-told2 .given .1)))
 
 enum-known-next : tie.Need-enum-known-next
 enum-known-next c = search needs
 
 step-5-requires : tie.Need-step-5-requires
-step-5-requires c κs = let g = c .before .before .before .before .before .before .pre in let e = ap view-next (c .before .before .next .given .1) in (square-marks g, at-path g _ _ e, at-step5 g _ _ e)
+step-5-requires c κs =
+    let g = c .before .before .before .before .before .before .pre in
+    let e = ap view-next (c .before .before .next .given .1) in
+    (square-marks g, at-path g _ _ e, at-step5 g _ _ e)
 
 enum-told-3 : tie.Need-enum-told-3
 enum-told-3 c = search needs
@@ -73,7 +78,9 @@ same-length-7 : tie.Need-same-length-7
 same-length-7 c = search needs
 
 returns-4 : tie.Need-returns-4
-returns-4 c = arm-6 _ _ _ _ (ap view-next (c .before .before .before .before .before .before .before .enum-told3 .given .1)) (c .before .before .before .step-6 .ensures)
+returns-4 c =
+    arm-6 _ _ _ _ (ap view-next (c .before .before .before .before .before .before .before .enum-told3 .given .1))
+    (c .before .before .before .step-6 .ensures)
 
 returns-5 : tie.Need-returns-5
 returns-5 c = arm-end _ _ _ _ (ap (λ x. over (view-next x)) (c .enum-told4 .given .1))

@@ -24,7 +24,9 @@ same-length c = search needs
 returns : tie.Need-returns
 unfolding lowest
 returns c =
-    step6-spent (c .before .before .before .before .before .before .before .args .n) _ _ (view (c .before .before .before .before .before .before .before .args .run)) _ _ _ (value-found _ _ _ _ (sym (c .before .before .before .before .least-uncovered .ensures) ∙ c .before .before .least .given .1) .0) (c .if1 .taken)
+    step6-spent (c .before .before .before .before .before .before .before .args .n) _ _
+    (view (c .before .before .before .before .before .before .before .args .run)) _ _ _
+    (value-found _ _ _ _ (sym (c .before .before .before .before .least-uncovered .ensures) ∙ c .before .before .least .given .1) .0) (c .if1 .taken)
 
 follow-prices-requires : tie.Need-follow-prices-requires
 unfolding lowest
@@ -37,16 +39,22 @@ follow-prices-requires c κs =
 lower-prices-requires : tie.Need-lower-prices-requires
 unfolding lowest
 lower-prices-requires c κs =
-    let v = value-found _ _ _ _ (sym (c .before .before .before .before .before .before .before .before .least-uncovered .ensures) ∙ c .before .before .before .before .before .before .least .given .1) in
-    let a = c .before .before .before .before .before .before .before .before .before .before .before .pre .5 (c .before .before .before .before .if1 .left) (v .0) in
+    let v = value-found _ _ _ _
+    (sym (c .before .before .before .before .before .before .before .before .least-uncovered .ensures) ∙ c .before .before .before .before .before .before .least .given .1)
+    in
+    let a = c .before .before .before .before .before .before .before .before .before .before .before .pre .5
+    (c .before .before .before .before .if1 .left) (v .0) in
     let e = back _ _ (v .1) (a .0) in
     (omega (arith, c .before .before .before .before .before .before .before .before .before .before .before .pre .2, c .before .before .before .before .before .before .before .before .before .before .before .pre .0 .small), rw e (a .0), rw e (a .2))
 
 raise-prices-requires : tie.Need-raise-prices-requires
 unfolding lowest
 raise-prices-requires c κs =
-    let v = value-found _ _ _ _ (sym (c .before .before .before .before .before .before .before .before .before .before .before .least-uncovered .ensures) ∙ c .before .before .before .before .before .before .before .before .before .least .given .1) in
-    let a = c .before .before .before .before .before .before .before .before .before .before .before .before .before .before .pre .5 (c .before .before .before .before .before .before .before .if1 .left) (v .0) in
+    let v = value-found _ _ _ _
+    (sym (c .before .before .before .before .before .before .before .before .before .before .before .least-uncovered .ensures) ∙ c .before .before .before .before .before .before .before .before .before .least .given .1)
+    in
+    let a = c .before .before .before .before .before .before .before .before .before .before .before .before .before .before .pre .5
+    (c .before .before .before .before .before .before .before .if1 .left) (v .0) in
     let e = back _ _ (v .1) (a .0) in
     (omega (arith, c .before .before .before .before .before .before .before .before .before .before .before .before .before .before .pre .3, c .before .before .before .before .before .before .before .before .before .before .before .before .before .before .pre .0 .small), rw e (a .0), rw e (a .3))
 
@@ -59,7 +67,8 @@ same-length-2 c = search needs
 returns-2 : tie.Need-returns-2
 unfolding lowest
 returns-2 c =
-    step6-none (c .before .before .before .before .before .args .n) _ _ (view (c .before .before .before .before .before .args .run)) _ _ _ (value-none _ _ _ (sym (c .before .before .least-uncovered .ensures) ∙ c .enum-told .given .1))
+    step6-none (c .before .before .before .before .before .args .n) _ _ (view (c .before .before .before .before .before .args .run)) _ _ _
+    (value-none _ _ _ (sym (c .before .before .least-uncovered .ensures) ∙ c .enum-told .given .1))
 
 same-length-3 : tie.Need-same-length-3
 same-length-3 c = search needs
@@ -73,10 +82,18 @@ same-length-5 c = search needs
 returns-3 : tie.Need-returns-3
 unfolding lowest
 returns-3 c =
-    let v = value-found _ _ _ _ (sym (c .before .before .before .before .before .before .before .before .before .before .before .before .before .least-uncovered .ensures) ∙ c .before .before .before .before .before .before .before .before .before .before .before .least .given .1) in
-    let a = c .before .before .before .before .before .before .before .before .before .before .before .before .before .before .before .before .pre .5 (c .before .before .before .before .before .before .before .before .before .if1 .left) (v .0) in
+    let v = value-found _ _ _ _
+    (sym (c .before .before .before .before .before .before .before .before .before .before .before .before .before .least-uncovered .ensures) ∙ c .before .before .before .before .before .before .before .before .before .before .before .least .given .1)
+    in
+    let a = c .before .before .before .before .before .before .before .before .before .before .before .before .before .before .before .before .pre .5
+    (c .before .before .before .before .before .before .before .before .before .if1 .left) (v .0) in
     let e = back _ _ (v .1) (a .0) in
-    step6-adjusts (c .before .before .before .before .before .before .before .before .before .before .before .before .before .before .before .before .args .n) _ _ (view (c .before .before .before .before .before .before .before .before .before .before .before .before .before .before .before .before .args .run)) _ _ _ (v .0) _ _ _ _ e (c .before .before .before .before .before .before .before .before .before .if1 .left) (c .before .before .before .before .before .before .before .follow-prices .ensures) (c .before .before .before .before .lower-prices .ensures) (c .before .raise-prices .ensures)
+    step6-adjusts
+    (c .before .before .before .before .before .before .before .before .before .before .before .before .before .before .before .before .args .n) _ _
+    (view (c .before .before .before .before .before .before .before .before .before .before .before .before .before .before .before .before .args .run))
+    _ _ _ (v .0) _ _ _ _ e (c .before .before .before .before .before .before .before .before .before .if1 .left)
+    (c .before .before .before .before .before .before .before .follow-prices .ensures) (c .before .before .before .before .lower-prices .ensures)
+    (c .before .raise-prices .ensures)
 
 pub step-6-spec : {M : Type 1} → statement M
 step-6-spec =
