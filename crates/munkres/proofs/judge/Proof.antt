@@ -43,8 +43,9 @@ returns-5 c =
 
 find-dead-row-requires : tie.Need-find-dead-row-requires
 find-dead-row-requires c κs =
+    let s = c .before .before .before .before .before .before in
     record
-    { small = c .before .before .before .before .before .before .if2 .left; size = cells _ _ (c .before .before .before .before .before .before .before .if1 .left) (c .before .before .before .before .before .before .if2 .left) (sym (c .before .before .before .before .before .has-lengths .ensures) ∙ not-false _ (c .before .before .before .before .if3 .left)) }
+    { small = s .if2 .left; size = cells _ _ (c .before .before .before .before .before .before .before .if1 .left) (s .if2 .left) (sym (c .before .before .before .before .before .has-lengths .ensures) ∙ not-false _ (c .before .before .before .before .if3 .left)) }
 
 returns-6 : tie.Need-returns-6
 returns-6 c =

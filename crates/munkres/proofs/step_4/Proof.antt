@@ -17,30 +17,34 @@ enum-known-found c = search needs
 
 mul-marks : tie.Need-mul-marks
 mul-marks c =
+    let s = c .before .before .before .before .before .before in
     omega
-    (arith, found-place (c .before .before .before .before .before .before .args .n) _ _ (view (c .before .before .before .before .before .before .args .run)) (c .before .before .before .before .before .before .pre .0 .small) (found-at (c .before .before .before .before .before .before .args .n) _ _ (view (c .before .before .before .before .before .before .args .run)) (sym (c .before .before .before .find-uncovered-cell-column-row-order .ensures) ∙ c .before .found .given .1)))
+    (arith, found-place (s .args .n) _ _ (view (s .args .run)) (s .pre .0 .small) (found-at (s .args .n) _ _ (view (s .args .run)) (sym (c .before .before .before .find-uncovered-cell-column-row-order .ensures) ∙ c .before .found .given .1)))
 
 add-marks : tie.Need-add-marks
 add-marks c =
+    let s = c .before .before .before .before .before .before in
     omega
-    (arith, found-place (c .before .before .before .before .before .before .args .n) _ _ (view (c .before .before .before .before .before .before .args .run)) (c .before .before .before .before .before .before .pre .0 .small) (found-at (c .before .before .before .before .before .before .args .n) _ _ (view (c .before .before .before .before .before .before .args .run)) (sym (c .before .before .before .find-uncovered-cell-column-row-order .ensures) ∙ c .before .found .given .1)))
+    (arith, found-place (s .args .n) _ _ (view (s .args .run)) (s .pre .0 .small) (found-at (s .args .n) _ _ (view (s .args .run)) (sym (c .before .before .before .find-uncovered-cell-column-row-order .ensures) ∙ c .before .found .given .1)))
 
 slice-write-marks : tie.Need-slice-write-marks
 slice-write-marks c =
+    let s = c .before .before .before .before .before .before in
     omega
-    (arith, found-place (c .before .before .before .before .before .before .args .n) _ _ (view (c .before .before .before .before .before .before .args .run)) (c .before .before .before .before .before .before .pre .0 .small) (found-at (c .before .before .before .before .before .before .args .n) _ _ (view (c .before .before .before .before .before .before .args .run)) (sym (c .before .before .before .find-uncovered-cell-column-row-order .ensures) ∙ c .before .found .given .1)), c .before .before .before .before .before .before .pre .2 .size)
+    (arith, found-place (s .args .n) _ _ (view (s .args .run)) (s .pre .0 .small) (found-at (s .args .n) _ _ (view (s .args .run)) (sym (c .before .before .before .find-uncovered-cell-column-row-order .ensures) ∙ c .before .found .given .1)), s .pre .2 .size)
 
 find-first-star-in-row-requires : tie.Need-find-first-star-in-row-requires
 find-first-star-in-row-requires c κs =
-    (record { small = c .before .before .before .before .before .before .before .pre .2 .small; size = simp length-set (c .before .before .before .before .before .before .before .pre .2 .size) }, (found-at (c .before .before .before .before .before .before .before .args .n) _ _ (view (c .before .before .before .before .before .before .before .args .run)) (sym (c .before .before .before .before .find-uncovered-cell-column-row-order .ensures) ∙ c .before .before .found .given .1)) .row-below)
+    let s = c .before .before .before .before .before .before .before in
+    (record { small = s .pre .2 .small; size = simp length-set (s .pre .2 .size) }, (found-at (s .args .n) _ _ (view (s .args .run)) (sym (c .before .before .before .before .find-uncovered-cell-column-row-order .ensures) ∙ c .before .before .found .given .1)) .row-below)
 
 cover-requires : tie.Need-cover-requires
 cover-requires c κs =
-    let f = found-at (c .before .before .before .before .before .before .before .before .before .args .n) _ _
-    (view (c .before .before .before .before .before .before .before .before .before .args .run))
+    let s = c .before .before .before .before .before .before .before .before .before in
+    let f = found-at (s .args .n) _ _ (view (s .args .run))
     (sym (c .before .before .before .before .before .before .find-uncovered-cell-column-row-order .ensures) ∙ c .before .before .before .before .found .given .1)
     in
-    omega (arith, f .row-below, c .before .before .before .before .before .before .before .before .before .pre .0 .small)
+    omega (arith, f .row-below, s .pre .0 .small)
 
 uncover-requires : tie.Need-uncover-requires
 uncover-requires c κs = search needs
@@ -53,9 +57,9 @@ same-length c = search needs
 
 returns : tie.Need-returns
 returns c =
-    step4-covers (c .before .before .before .before .before .before .before .before .before .before .before .before .args .n) _ _
-    (view (c .before .before .before .before .before .before .before .before .before .before .before .before .args .run)) _ _ _ _ _ _
-    (found-at (c .before .before .before .before .before .before .before .before .before .before .before .before .args .n) _ _ (view (c .before .before .before .before .before .before .before .before .before .before .before .before .args .run)) (sym (c .before .before .before .before .before .before .before .before .before .find-uncovered-cell-column-row-order .ensures) ∙ c .before .before .before .before .before .before .before .found .given .1))
+    let s = c .before .before .before .before .before .before .before .before .before .before .before .before in
+    step4-covers (s .args .n) _ _ (view (s .args .run)) _ _ _ _ _ _
+    (found-at (s .args .n) _ _ (view (s .args .run)) (sym (c .before .before .before .before .before .before .before .before .before .find-uncovered-cell-column-row-order .ensures) ∙ c .before .before .before .before .before .before .before .found .given .1))
     (c .before .before .before .before .find-first-star-in-row .ensures) (c .before .before .before .if1 .taken) (c .before .before .cover .ensures)
     (c .before .uncover .ensures)
 
@@ -70,15 +74,15 @@ same-length-2 c = search needs
 
 returns-2 : tie.Need-returns-2
 returns-2 c =
-    step4-reaches (c .before .before .before .before .before .before .before .before .before .before .args .n) _ _
-    (view (c .before .before .before .before .before .before .before .before .before .before .args .run)) _ _ _ _
-    (found-at (c .before .before .before .before .before .before .before .before .before .before .args .n) _ _ (view (c .before .before .before .before .before .before .before .before .before .before .args .run)) (sym (c .before .before .before .before .before .before .before .find-uncovered-cell-column-row-order .ensures) ∙ c .before .before .before .before .before .found .given .1))
+    let s = c .before .before .before .before .before .before .before .before .before .before in
+    step4-reaches (s .args .n) _ _ (view (s .args .run)) _ _ _ _
+    (found-at (s .args .n) _ _ (view (s .args .run)) (sym (c .before .before .before .before .before .before .before .find-uncovered-cell-column-row-order .ensures) ∙ c .before .before .before .before .before .found .given .1))
     (c .before .before .find-first-star-in-row .ensures) (c .before .if1 .left)
 
 returns-3 : tie.Need-returns-3
 returns-3 c =
-    step4-none (c .before .before .before .before .before .args .n) _ _ (view (c .before .before .before .before .before .args .run)) _
-    (sym (c .before .before .find-uncovered-cell-column-row-order .ensures) ∙ c .enum-told .given .1)
+    let s = c .before .before .before .before .before in
+    step4-none (s .args .n) _ _ (view (s .args .run)) _ (sym (c .before .before .find-uncovered-cell-column-row-order .ensures) ∙ c .enum-told .given .1)
 
 pub step-4-spec : {M : Type 1} → statement M
 step-4-spec =

@@ -24,39 +24,41 @@ same-length c = search needs
 returns : tie.Need-returns
 unfolding lowest
 returns c =
-    step6-spent (c .before .before .before .before .before .before .before .args .n) _ _
-    (view (c .before .before .before .before .before .before .before .args .run)) _ _ _
+    let s = c .before .before .before .before .before .before .before in
+    step6-spent (s .args .n) _ _ (view (s .args .run)) _ _ _
     (value-found _ _ _ _ (sym (c .before .before .before .before .least-uncovered .ensures) ∙ c .before .before .least .given .1) .0) (c .if1 .taken)
 
 follow-prices-requires : tie.Need-follow-prices-requires
 unfolding lowest
 follow-prices-requires c κs =
-    let v = value-found _ _ _ _ (sym (c .before .before .before .before .before .least-uncovered .ensures) ∙ c .before .before .before .least .given .1) in
-    let a = c .before .before .before .before .before .before .before .before .pre .5 (c .before .if1 .left) (v .0) in
+    let s = c .before .before .before .before .before .before .before .before in
+    let v = value-found _ _ _ _
+    (sym (c .before .before .before .before .before .least-uncovered .ensures) ∙ c .before .before .before .least .given .1) in
+    let a = s .pre .5 (c .before .if1 .left) (v .0) in
     let e = back _ _ (v .1) (a .0) in
-    (c .before .before .before .before .before .before .before .before .pre .0, c .before .before .before .before .before .before .before .before .pre .1, rw e (a .0), rw e (a .1))
+    (s .pre .0, s .pre .1, rw e (a .0), rw e (a .1))
 
 lower-prices-requires : tie.Need-lower-prices-requires
 unfolding lowest
 lower-prices-requires c κs =
+    let s = c .before .before .before .before .before .before .before .before .before .before .before in
     let v = value-found _ _ _ _
     (sym (c .before .before .before .before .before .before .before .before .least-uncovered .ensures) ∙ c .before .before .before .before .before .before .least .given .1)
     in
-    let a = c .before .before .before .before .before .before .before .before .before .before .before .pre .5
-    (c .before .before .before .before .if1 .left) (v .0) in
+    let a = s .pre .5 (c .before .before .before .before .if1 .left) (v .0) in
     let e = back _ _ (v .1) (a .0) in
-    (omega (arith, c .before .before .before .before .before .before .before .before .before .before .before .pre .2, c .before .before .before .before .before .before .before .before .before .before .before .pre .0 .small), rw e (a .0), rw e (a .2))
+    (omega (arith, s .pre .2, s .pre .0 .small), rw e (a .0), rw e (a .2))
 
 raise-prices-requires : tie.Need-raise-prices-requires
 unfolding lowest
 raise-prices-requires c κs =
+    let s = c .before .before .before .before .before .before .before .before .before .before .before .before .before .before in
     let v = value-found _ _ _ _
     (sym (c .before .before .before .before .before .before .before .before .before .before .before .least-uncovered .ensures) ∙ c .before .before .before .before .before .before .before .before .before .least .given .1)
     in
-    let a = c .before .before .before .before .before .before .before .before .before .before .before .before .before .before .pre .5
-    (c .before .before .before .before .before .before .before .if1 .left) (v .0) in
+    let a = s .pre .5 (c .before .before .before .before .before .before .before .if1 .left) (v .0) in
     let e = back _ _ (v .1) (a .0) in
-    (omega (arith, c .before .before .before .before .before .before .before .before .before .before .before .before .before .before .pre .3, c .before .before .before .before .before .before .before .before .before .before .before .before .before .before .pre .0 .small), rw e (a .0), rw e (a .3))
+    (omega (arith, s .pre .3, s .pre .0 .small), rw e (a .0), rw e (a .3))
 
 add-t26 : tie.Need-add-t26
 add-t26 c = search needs
@@ -67,8 +69,8 @@ same-length-2 c = search needs
 returns-2 : tie.Need-returns-2
 unfolding lowest
 returns-2 c =
-    step6-none (c .before .before .before .before .before .args .n) _ _ (view (c .before .before .before .before .before .args .run)) _ _ _
-    (value-none _ _ _ (sym (c .before .before .least-uncovered .ensures) ∙ c .enum-told .given .1))
+    let s = c .before .before .before .before .before in
+    step6-none (s .args .n) _ _ (view (s .args .run)) _ _ _ (value-none _ _ _ (sym (c .before .before .least-uncovered .ensures) ∙ c .enum-told .given .1))
 
 same-length-3 : tie.Need-same-length-3
 same-length-3 c = search needs
@@ -82,16 +84,14 @@ same-length-5 c = search needs
 returns-3 : tie.Need-returns-3
 unfolding lowest
 returns-3 c =
+    let s = c .before .before .before .before .before .before .before .before .before .before .before .before .before .before .before .before in
+    let q = c .before .before .before .before .before .before .before .before .before in
     let v = value-found _ _ _ _
     (sym (c .before .before .before .before .before .before .before .before .before .before .before .before .before .least-uncovered .ensures) ∙ c .before .before .before .before .before .before .before .before .before .before .before .least .given .1)
     in
-    let a = c .before .before .before .before .before .before .before .before .before .before .before .before .before .before .before .before .pre .5
-    (c .before .before .before .before .before .before .before .before .before .if1 .left) (v .0) in
+    let a = s .pre .5 (q .if1 .left) (v .0) in
     let e = back _ _ (v .1) (a .0) in
-    step6-adjusts
-    (c .before .before .before .before .before .before .before .before .before .before .before .before .before .before .before .before .args .n) _ _
-    (view (c .before .before .before .before .before .before .before .before .before .before .before .before .before .before .before .before .args .run))
-    _ _ _ (v .0) _ _ _ _ e (c .before .before .before .before .before .before .before .before .before .if1 .left)
+    step6-adjusts (s .args .n) _ _ (view (s .args .run)) _ _ _ (v .0) _ _ _ _ e (q .if1 .left)
     (c .before .before .before .before .before .before .before .follow-prices .ensures) (c .before .before .before .before .lower-prices .ensures)
     (c .before .raise-prices .ensures)
 
