@@ -24,3 +24,4 @@ pub mod Ends
 pub mod Promised
 pub mod Theorems
 pub mod Samples
+pub mod CrateTests
