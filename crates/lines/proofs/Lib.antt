@@ -12,3 +12,4 @@ pub mod Bits
 pub mod Words
 pub mod Loops
 pub mod Rows
+pub mod Bounds

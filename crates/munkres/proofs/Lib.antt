@@ -9,4 +9,3 @@ pub mod Arms
 pub mod CallLaws
 pub mod StarLaws
 pub mod Sums
-pub mod Bounds

@@ -14,7 +14,7 @@ use Rattle.lines.proofs.Tests.{cases}
 use Rattle.lines.proofs.Rows.{RowPassed, row-none, row-store, row-keep, row-next, row-all}
 use Rattle.steps.specs.Lent.{allows}
 use Rattle.steps.specs.Steps.{follow}
-use Rattle.munkres.proofs.Bounds.{RowFits, row-fits}
+use Rattle.lines.proofs.Bounds.{RowFits, row-fits}
 use Rattle.munkres.proofs.Masks.{allows-yes, allows-no}
 use Rattle.munkres.proofs.Wide.{back64}
 use Rattle.munkres.proofs.weight_matrix.follow_row.Statement.{statement}

@@ -10,7 +10,7 @@ use Rattle.lines.specs.Sets.{has}
 use Rattle.lines.proofs.Tests.{cases}
 use Rattle.steps.specs.Lent.{allows}
 use Rattle.munkres.specs.Least.{least-from}
-use Rattle.munkres.proofs.Bounds.{RowFits, row-fits}
+use Rattle.lines.proofs.Bounds.{RowFits, row-fits}
 use Rattle.munkres.proofs.Masks.{allows-yes, allows-no}
 use Rattle.munkres.proofs.Wide.{back64}
 use Rattle.munkres.proofs.Values.{from-take, from-skip}

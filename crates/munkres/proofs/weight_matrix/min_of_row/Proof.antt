@@ -9,7 +9,7 @@ use Rattle.lines.proofs.Tests.{cases}
 use Rattle.steps.specs.Lent.{allows, cost-at}
 use Rattle.munkres.specs.Least.{least-from}
 use Rattle.munkres.specs.declared.weight_matrix.Least.the-variants.{Value, Nothing}
-use Rattle.munkres.proofs.Bounds.{RowFits, row-fits}
+use Rattle.lines.proofs.Bounds.{RowFits, row-fits}
 use Rattle.munkres.proofs.Masks.{allows-yes, allows-no}
 use Rattle.munkres.proofs.Wide.{wide-fits, wide-back, wide-within}
 use Rattle.munkres.proofs.Values.{from-take, from-skip, lesser-holds}

@@ -11,7 +11,7 @@ use mir.Facts.{toZ-ofZ}
 use Rattle.lines.proofs.Tests.{cases}
 use Rattle.lines.proofs.Rows.{RowPassed, row-none, row-store, row-all}
 use Rattle.steps.specs.Lent.{allows, cost-at}
-use Rattle.munkres.proofs.Bounds.{RowFits, row-fits}
+use Rattle.lines.proofs.Bounds.{RowFits, row-fits}
 use Rattle.munkres.proofs.Masks.{allows-yes, allows-no}
 use Rattle.munkres.proofs.Wide.{wide-fits, excess-fits, excess-back}
 use Rattle.munkres.proofs.weight_matrix.sub_row.Statement.{statement}

@@ -1,0 +1,4 @@
+pub mod Records
+pub mod Scan
+pub mod View
+pub mod Case
