@@ -1,0 +1,59 @@
+-- `after_values` reads within the values and ends. Nothing has to hold from turn to turn.
+use Prim.Native.Nat.{_-_}
+use lib.ListN.{length}
+use borrow.Author.Needs.{needs}
+use Rattle.replay.proofs.record.after_values.Statement.{statement}
+use Rattle.replay.proofs.record.after_values.Tie as tie
+
+abbrev Inv-loop : tie.InvT-loop
+Inv-loop «record» start width values at₀ i₀ at i = Unit {0}
+
+abbrev μ-loop : tie.MeasureT-loop
+μ-loop «record» start width values at₀ i₀ at i = length values - i
+
+loop-holds : tie.Need-loop-holds Inv-loop μ-loop
+loop-holds c = search needs
+
+mul-if1 : tie.Need-mul-if1 Inv-loop μ-loop
+mul-if1 c = search needs
+
+shared-slice-copy-out-if1 : tie.Need-shared-slice-copy-out-if1 Inv-loop μ-loop
+shared-slice-copy-out-if1 c = search needs
+
+value-requires : tie.Need-value-requires Inv-loop μ-loop
+value-requires c κs = search needs
+
+returns : tie.Need-returns Inv-loop μ-loop
+returns c = search needs
+
+onward-requires : tie.Need-onward-requires Inv-loop μ-loop
+onward-requires c κs = search needs
+
+add-i : tie.Need-add-i Inv-loop μ-loop
+add-i c = search needs
+
+loop-less : tie.Need-loop-less Inv-loop μ-loop
+loop-less c = search needs
+
+loop-again : tie.Need-loop-again Inv-loop μ-loop
+loop-again c = search needs
+
+returns-2 : tie.Need-returns-2 Inv-loop μ-loop
+returns-2 c = search needs
+
+pub after-values-spec : {M : Type 1} → statement M
+after-values-spec =
+    tie.close
+    (tie.spec
+    Inv-loop
+    μ-loop
+    loop-holds
+    mul-if1
+    shared-slice-copy-out-if1
+    value-requires
+    returns
+    onward-requires
+    add-i
+    loop-less
+    loop-again
+    returns-2)
