@@ -164,7 +164,7 @@ pub record Filled (s : D.Scan) : Type 0 where
 -- after one record: further on, or a verdict
 abbrev pub After : List ℕ → D.Scan → D.Judged → Type 0
 After file s (D.more t) = (s .at < t .at) × Fair file t
-After file s (D.refused number place) = Unit {0}
+After file s (D.refused number place) = 0 < number
 After file s (D.accepted t) = Filled t
 
 module _ (file : List ℕ) (s : D.Scan) (h : Fair file s) where
@@ -174,7 +174,7 @@ module _ (file : List ℕ) (s : D.Scan) (h : Fair file s) where
   after-size : s .at + 7 ≤ length file → After file s (D.size file s)
   unfolding D.size D.bad-size
   after-size fits =
-      cond-ind (After file s) (not (eqb (s .n) 0)) (D.refused 23 (s .at)) _ (λ t. tt)
+      cond-ind (After file s) (not (eqb (s .n) 0)) (D.refused 23 (s .at)) _ (λ t. omega arith)
       (λ t. go (eqb n 0) (ltb 64 n) (ltb 1_000_000_000 w) (nltb→le 64 n) (nltb→le 1_000_000_000 w))
     where
       n : ℕ
@@ -185,27 +185,27 @@ module _ (file : List ℕ) (s : D.Scan) (h : Fair file s) where
 
       go : (x y z : Bool) → (T (not y) → n ≤ 64) → (T (not z) → w ≤ 1_000_000_000)
           → After file s (cond (x || y || z) (D.refused 25 (s .at)) (D.more (D.scan-with (s .at + 7) n w [] [])))
-      go true y z few low = tt
-      go false true z few low = tt
-      go false false true few low = tt
+      go true y z few low = omega arith
+      go false true z few low = omega arith
+      go false false true few low = omega arith
       go false false false few low = on (omega arith) fits (few tt) (low tt)
 
   after-fragment : s .at + 9 ≤ length file → After file s (D.fragment file s)
   unfolding D.fragment
   after-fragment fits =
-      cond-ind (After file s) (eqb (s .n) 0) (D.refused 23 (s .at)) _ (λ t. tt)
-      (λ t. cond-ind (After file s) (eqb (length (s .fragments)) (s .n)) (D.refused 24 (s .at)) _ (λ u. tt) (λ u. on (omega arith) fits (h .small) (h .low)))
+      cond-ind (After file s) (eqb (s .n) 0) (D.refused 23 (s .at)) _ (λ t. omega arith)
+      (λ t. cond-ind (After file s) (eqb (length (s .fragments)) (s .n)) (D.refused 24 (s .at)) _ (λ u. omega arith) (λ u. on (omega arith) fits (h .small) (h .low)))
 
   after-event : s .at + 7 ≤ length file → After file s (D.event file s)
   unfolding D.event
   after-event fits =
-      cond-ind (After file s) (eqb (s .n) 0) (D.refused 23 (s .at)) _ (λ t. tt)
-      (λ t. cond-ind (After file s) (eqb (length (s .events)) (s .n)) (D.refused 24 (s .at)) _ (λ u. tt) (λ u. on (omega arith) fits (h .small) (h .low)))
+      cond-ind (After file s) (eqb (s .n) 0) (D.refused 23 (s .at)) _ (λ t. omega arith)
+      (λ t. cond-ind (After file s) (eqb (length (s .events)) (s .n)) (D.refused 24 (s .at)) _ (λ u. omega arith) (λ u. on (omega arith) fits (h .small) (h .low)))
 
   after-end : After file s (D.end file s)
   unfolding D.end
   after-end =
-      cond-ind (After file s) (eqb (s .n) 0) (D.refused 23 (s .at)) _ (λ t. tt)
+      cond-ind (After file s) (eqb (s .n) 0) (D.refused 23 (s .at)) _ (λ t. omega arith)
       (λ t. cond-ind (After file s) (eqb (length (s .fragments)) (s .n) && eqb (length (s .events)) (s .n)) _ (D.refused 24 (s .at))
       (λ u. cond-ind (After file s) (eqb (s .at + 1) (length file)) (D.accepted s) (D.refused 26 (s .at + 1))
       (λ v. record {
@@ -215,8 +215,8 @@ module _ (file : List ℕ) (s : D.Scan) (h : Fair file s) where
         rows = eqb→eq (length (s .fragments)) (s .n) (and-left (eqb (length (s .fragments)) (s .n)) (eqb (length (s .events)) (s .n)) u);
         columns = eqb→eq (length (s .events)) (s .n) (and-right (eqb (length (s .fragments)) (s .n)) (eqb (length (s .events)) (s .n)) u);
       })
-      (λ v. tt))
-      (λ u. tt))
+      (λ v. omega arith))
+      (λ u. omega arith))
     where
       some : (n : ℕ) → T (not (eqb n 0)) → 0 < n
       some zero t = absurd t
@@ -227,8 +227,8 @@ module _ (file : List ℕ) (s : D.Scan) (h : Fair file s) where
   record-after = go (found file (s .at)) (λ n e. found-whole file (s .at) e)
     where
       go : (f : Found) → ((n : ℕ) → f ≡ Body n → Whole file (s .at) n) → After file s (D.record-of file s f)
-      go Cut w = tt
-      go Unknown w = tt
+      go Cut w = omega arith
+      go Unknown w = omega arith
       go (Body n) w =
           let kind = getD file (s .at) 0 in
           cond-ind (After file s) (eqb kind 1) (D.size file s) (cond (eqb kind 2) (D.fragment file s) (cond (eqb kind 3) (D.event file s) (D.end file s)))
@@ -254,7 +254,7 @@ module _ (file : List ℕ) where
 
 abbrev Ended : D.Judged → Type 0
 Ended (D.more s) = ⊥
-Ended (D.refused number place) = Unit {0}
+Ended (D.refused number place) = 0 < number
 Ended (D.accepted s) = Filled s
 
 -- with more records allowed than there are bytes left
@@ -265,7 +265,7 @@ ends file (suc k) s h room = go (D.judge-record file s) (record-after file s h) 
   where
     go : (j : D.Judged) → After file s j → ((t : D.Scan) → Fair file t → length file < t .at + k → Ended (D.judge-from file k (D.more t))) → Ended (D.judge-from file k j)
     go (D.more t) a rest = rest t (a .1) (omega (arith, a .0))
-    go (D.refused number place) a rest = rw (stays-refused file k number place) tt
+    go (D.refused number place) a rest = rw (stays-refused file k number place) a
     go (D.accepted t) a rest = rw (stays-accepted file k t) a
 
 judged-ends : (file : List ℕ) → Ended (D.judged file)
@@ -278,3 +278,7 @@ module _ (file : List ℕ) {s : D.Scan} where
 
   pub accepted-filled : D.judged file ≡ D.accepted s → Filled s
   accepted-filled e = subst Ended e (judged-ends file)
+
+-- a refusal's number is never that of an accepted file
+pub refused-some : (file : List ℕ) {number place : ℕ} → D.judged file ≡ D.refused number place → 0 < number
+refused-some file e = subst Ended e (judged-ends file)

@@ -2,3 +2,4 @@ pub mod Records
 pub mod Scan
 pub mod View
 pub mod Case
+pub mod Pair

@@ -1,11 +1,15 @@
-// The case reader: records of a case file, its judgement, the costs and mask that it says, and the hut of a row.
+// The case reader: records of a case file, its judgement, the costs and mask that it says, the hut of a row, and its fragments paired with its events.
 ghost use mathlib.Core.Path.{_≡_};
 ghost use Rattle.storm_case.specs.Records.{body-length as Records·body-length, found, body as Records·body};
 ghost use Rattle.storm_case.specs.Case.{case, read, hut as Case·hut};
 
 mod cells;
 mod numbers;
+mod pair;
 mod scan;
+
+pub use pair::Pairs;
+pub use pair::pair_case;
 
 // What stands at an offset of a file.
 pub enum Found {
