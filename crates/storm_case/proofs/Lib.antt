@@ -6,3 +6,6 @@ pub mod CaseLaws
 pub mod AboutLaws
 pub mod PairLaws
 pub mod Samples
+pub mod OneRecord
+pub mod Decides
+pub mod Longest
