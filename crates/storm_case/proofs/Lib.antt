@@ -9,3 +9,4 @@ pub mod Samples
 pub mod OneRecord
 pub mod Decides
 pub mod Longest
+pub mod Only
