@@ -238,7 +238,7 @@ cut-judged k b file =
 
 module _ (k : ℕ) (b : 1040 ≤ k) (file : List ℕ) where
   -- an accepted file is not cut
-  cut-nothing : {s : D.Scan} → D.judged file ≡ D.accepted s → take k file ≡ file
+  pub cut-nothing : {s : D.Scan} → D.judged file ≡ D.accepted s → take k file ≡ file
   cut-nothing e = take-all k file (omega (arith, accepted-short file e))
 
   pub cut-read : (costs : List ℤ) (mask : List ℕ) → read (take k file) costs mask ≡ read file costs mask

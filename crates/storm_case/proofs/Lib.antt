@@ -1,4 +1,5 @@
 pub mod RecordLaws
+pub mod OneRecord
 pub mod ScanLaws
 pub mod SaysLaws
 pub mod CellLaws
@@ -6,7 +7,7 @@ pub mod CaseLaws
 pub mod AboutLaws
 pub mod PairLaws
 pub mod Samples
-pub mod OneRecord
 pub mod Decides
 pub mod Longest
 pub mod Only
+pub mod OnlyPairs

@@ -13,7 +13,7 @@ use Rattle.storm_case.specs.declared.Found.{Found}
 use Rattle.storm_case.specs.declared.Found.the-variants.{Body, Cut, Unknown}
 use Rattle.storm_case.specs.Records.{found, u16-at, u32-at}
 use Rattle.storm_case.specs.Scan as D
-use Rattle.storm_case.proofs.RecordLaws.{Whole, found-whole, size-fits, fragment-fits, event-fits}
+use Rattle.storm_case.proofs.OneRecord.{Does, refuses, sizes, adds-row, adds-column, ends as ends-file, record-does}
 
 -- ---- each record's tests
 
@@ -167,77 +167,15 @@ After file s (D.more t) = (s .at < t .at) × Fair file t
 After file s (D.refused number place) = 0 < number
 After file s (D.accepted t) = Filled t
 
-module _ (file : List ℕ) (s : D.Scan) (h : Fair file s) where
-  on : {t : D.Scan} → s .at < t .at → t .at ≤ length file → t .n ≤ 64 → t .window ≤ 1_000_000_000 → After file s (D.more t)
-  on far inside small low = (far, record { inside = inside; small = small; low = low })
-
-  after-size : s .at + 7 ≤ length file → After file s (D.size file s)
-  unfolding D.size D.bad-size
-  after-size fits =
-      cond-ind (After file s) (not (eqb (s .n) 0)) (D.refused 23 (s .at)) _ (λ t. omega arith)
-      (λ t. go (eqb n 0) (ltb 64 n) (ltb 1_000_000_000 w) (nltb→le 64 n) (nltb→le 1_000_000_000 w))
-    where
-      n : ℕ
-      n = u16-at file (s .at + 1)
-
-      w : ℕ
-      w = u32-at file (s .at + 3)
-
-      go : (x y z : Bool) → (T (not y) → n ≤ 64) → (T (not z) → w ≤ 1_000_000_000)
-          → After file s (cond (x || y || z) (D.refused 25 (s .at)) (D.more (D.scan-with (s .at + 7) n w [] [])))
-      go true y z few low = omega arith
-      go false true z few low = omega arith
-      go false false true few low = omega arith
-      go false false false few low = on (omega arith) fits (few tt) (low tt)
-
-  after-fragment : s .at + 9 ≤ length file → After file s (D.fragment file s)
-  unfolding D.fragment
-  after-fragment fits =
-      cond-ind (After file s) (eqb (s .n) 0) (D.refused 23 (s .at)) _ (λ t. omega arith)
-      (λ t. cond-ind (After file s) (eqb (length (s .fragments)) (s .n)) (D.refused 24 (s .at)) _ (λ u. omega arith) (λ u. on (omega arith) fits (h .small) (h .low)))
-
-  after-event : s .at + 7 ≤ length file → After file s (D.event file s)
-  unfolding D.event
-  after-event fits =
-      cond-ind (After file s) (eqb (s .n) 0) (D.refused 23 (s .at)) _ (λ t. omega arith)
-      (λ t. cond-ind (After file s) (eqb (length (s .events)) (s .n)) (D.refused 24 (s .at)) _ (λ u. omega arith) (λ u. on (omega arith) fits (h .small) (h .low)))
-
-  after-end : After file s (D.end file s)
-  unfolding D.end
-  after-end =
-      cond-ind (After file s) (eqb (s .n) 0) (D.refused 23 (s .at)) _ (λ t. omega arith)
-      (λ t. cond-ind (After file s) (eqb (length (s .fragments)) (s .n) && eqb (length (s .events)) (s .n)) _ (D.refused 24 (s .at))
-      (λ u. cond-ind (After file s) (eqb (s .at + 1) (length file)) (D.accepted s) (D.refused 26 (s .at + 1))
-      (λ v. record {
-        some = some (s .n) t;
-        small = h .small;
-        low = h .low;
-        rows = eqb→eq (length (s .fragments)) (s .n) (and-left (eqb (length (s .fragments)) (s .n)) (eqb (length (s .events)) (s .n)) u);
-        columns = eqb→eq (length (s .events)) (s .n) (and-right (eqb (length (s .fragments)) (s .n)) (eqb (length (s .events)) (s .n)) u);
-      })
-      (λ v. omega arith))
-      (λ u. omega arith))
-    where
-      some : (n : ℕ) → T (not (eqb n 0)) → 0 < n
-      some zero t = absurd t
-      some (suc n) t = omega arith
-
-  pub record-after : After file s (D.judge-record file s)
-  unfolding D.judge-record D.record-of
-  record-after = go (found file (s .at)) (λ n e. found-whole file (s .at) e)
-    where
-      go : (f : Found) → ((n : ℕ) → f ≡ Body n → Whole file (s .at) n) → After file s (D.record-of file s f)
-      go Cut w = omega arith
-      go Unknown w = omega arith
-      go (Body n) w =
-          let kind = getD file (s .at) 0 in
-          cond-ind (After file s) (eqb kind 1) (D.size file s) (cond (eqb kind 2) (D.fragment file s) (cond (eqb kind 3) (D.event file s) (D.end file s)))
-          (λ t. after-size (size-fits file (s .at) (w n refl) (eqb→eq kind 1 t)))
-          (λ u. cond-ind (After file s) (eqb kind 2) (D.fragment file s) (cond (eqb kind 3) (D.event file s) (D.end file s))
-          (λ t. after-fragment (fragment-fits file (s .at) (w n refl) (eqb→eq kind 2 t)))
-          (λ u. cond-ind (After file s) (eqb kind 3) (D.event file s) (D.end file s)
-          (λ t. after-event (event-fits file (s .at) (w n refl) (eqb→eq kind 3 t)))
-          (λ u. after-end)))
+pub record-after : (file : List ℕ) (s : D.Scan) → Fair file s → After file s (D.judge-record file s)
+record-after file s h = go (record-does file s)
+  where
+    go : {j : D.Judged} → Does file s j → After file s j
+    go (refuses number place r) = omega (arith, r .low)
+    go (sizes r) = (omega arith, record { inside = r .fits; small = r .small; low = r .low })
+    go (adds-row r) = (omega arith, record { inside = r .fits; small = h .small; low = h .low })
+    go (adds-column r) = (omega arith, record { inside = r .fits; small = h .small; low = h .low })
+    go (ends-file r) = let some = r .some in record { some = omega arith; small = h .small; low = h .low; rows = r .rows; columns = r .columns }
 
 -- ---- the verdict
 
