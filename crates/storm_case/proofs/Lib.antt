@@ -11,3 +11,7 @@ pub mod Decides
 pub mod Longest
 pub mod Only
 pub mod OnlyPairs
+pub mod FormatBytes
+pub mod FormatScan
+pub mod FormatTaken
+pub mod FormatLaws

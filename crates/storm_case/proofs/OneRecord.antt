@@ -48,11 +48,18 @@ pub record IsEnd (file : List ℕ) (s : D.Scan) : Type 0 where
   pub columns : length (s .events) ≡ s .n
   pub last : s .at + 1 ≡ length file
 
+-- the scan after a fragment, and after an event
+abbrev pub with-row : D.Scan → D.Scan
+with-row s = D.scan-with (s .at + 9) (s .n) (s .window) (s .fragments ++ (s .at ∷ [])) (s .events)
+
+abbrev pub with-column : D.Scan → D.Scan
+with-column s = D.scan-with (s .at + 7) (s .n) (s .window) (s .fragments) (s .events ++ (s .at ∷ []))
+
 pub data Does (file : List ℕ) (s : D.Scan) : D.Judged → Type 0 where
   refuses : (number place : ℕ) → Refusal s number place → Does file s (D.refused number place)
   sizes : IsSize file s → Does file s (D.more (D.scan-with (s .at + 7) (u16-at file (s .at + 1)) (u32-at file (s .at + 3)) [] []))
-  adds-row : IsFragment file s → Does file s (D.more (D.scan-with (s .at + 9) (s .n) (s .window) (s .fragments ++ (s .at ∷ [])) (s .events)))
-  adds-column : IsEvent file s → Does file s (D.more (D.scan-with (s .at + 7) (s .n) (s .window) (s .fragments) (s .events ++ (s .at ∷ []))))
+  adds-row : IsFragment file s → Does file s (D.more (with-row s))
+  adds-column : IsEvent file s → Does file s (D.more (with-column s))
   ends : IsEnd file s → Does file s (D.accepted s)
 
 -- a body is found only behind a known kind
@@ -83,8 +90,9 @@ module _ (file : List ℕ) (s : D.Scan) where
   does-size : getD file (s .at) 0 ≡ 1 → s .at + 7 ≤ length file → Does file s (D.size file s)
   unfolding D.size D.bad-size
   does-size kind fits =
-      cond-ind (Does file s) (not (eqb (s .n) 0)) (D.refused 23 (s .at)) _ (λ t. here 23 (omega arith) (omega arith))
-      (λ t. go (eqb n 0) (ltb 64 n) (ltb 1_000_000_000 w) refl (nltb→le 64 n) (nltb→le 1_000_000_000 w) (eqb-true (s .n) 0 (not-false _ (T-false _ t))))
+      cond-ind (Does file s) (not (eqb (s .n) 0)) (D.refused 23 (s .at)) _ (λ t. here 23 (omega arith) (omega arith)) (λ t.
+      let first = eqb-true (s .n) 0 (not-false _ (T-false _ t)) in
+      go (eqb n 0) (ltb 64 n) (ltb 1_000_000_000 w) refl (nltb→le 64 n) (nltb→le 1_000_000_000 w) first)
     where
       n : ℕ
       n = u16-at file (s .at + 1)
@@ -139,13 +147,14 @@ module _ (file : List ℕ) (s : D.Scan) where
   unfolding D.judge-record D.record-of
   record-does = go (found file (s .at)) (λ n e. found-whole file (s .at) e) (λ n e. kind-known file (s .at) e)
     where
-      go : (f : Found) → ((n : ℕ) → f ≡ Body n → Whole file (s .at) n) → ((n : ℕ) → f ≡ Body n → (0 < getD file (s .at) 0) × (getD file (s .at) 0 < 5))
-          → Does file s (D.record-of file s f)
+      go : (f : Found) → ((n : ℕ) → f ≡ Body n → Whole file (s .at) n)
+          → ((n : ℕ) → f ≡ Body n → (0 < getD file (s .at) 0) × (getD file (s .at) 0 < 5)) → Does file s (D.record-of file s f)
       go Cut w k = here 21 (omega arith) (omega arith)
       go Unknown w k = here 22 (omega arith) (omega arith)
       go (Body n) w k =
           let kind = getD file (s .at) 0 in
-          cond-ind (Does file s) (eqb kind 1) (D.size file s) (cond (eqb kind 2) (D.fragment file s) (cond (eqb kind 3) (D.event file s) (D.end file s)))
+          let others = cond (eqb kind 2) (D.fragment file s) (cond (eqb kind 3) (D.event file s) (D.end file s)) in
+          cond-ind (Does file s) (eqb kind 1) (D.size file s) others
           (λ t. let e = eqb→eq kind 1 t in does-size e (size-fits file (s .at) (w n refl) e))
           (λ u1. cond-ind (Does file s) (eqb kind 2) (D.fragment file s) (cond (eqb kind 3) (D.event file s) (D.end file s))
           (λ t. let e = eqb→eq kind 2 t in does-fragment e (fragment-fits file (s .at) (w n refl) e))

@@ -1,0 +1,128 @@
+-- Records as bytes: what is written reads back, and bytes are what is written of what they read.
+use mathlib.Core.Path.{_≡_, refl, ap, _∙_}
+use mathlib.Core.List.{List, [], _∷_, _++_}
+use Prim.Native.Nat.{ℕ, zero, suc, _+_, _*_, _/_, _%_, _≤_, _<_}
+use native.Mathlib.Nat.{add-mul-mod-self-left, add-mul-div-left}
+use native.Mathlib.Omega.{arith}
+use lib.ListN.{length, getD, drop}
+use lib.Seq.{getD-drop}
+use Rattle.storm_case.specs.Records.{u16-at, u32-at}
+use Rattle.storm_case.specs.Format.{Fragment, Event, row, little-endian, line-bytes, RowFits, ColumnFits}
+
+-- ---- a number
+
+back16 : (x : ℕ) → x < 65_536 → x % 256 + 256 * (x / 256 % 256) ≡ x
+back16 x h = omega arith
+
+back32 : (x : ℕ) → x < 4_294_967_296 → (x % 256 + 256 * (x / 256 % 256)) + 65_536 * (x / 256 / 256 % 256 + 256 * (x / 256 / 256 / 256 % 256)) ≡ x
+back32 x h = omega arith
+
+-- the lowest byte, and the bytes of the rest
+low-byte : (k a y : ℕ) → a < 256 → little-endian (suc k) (a + 256 * y) ≡ a ∷ little-endian k y
+unfolding little-endian
+low-byte k a y h =
+    let p : (a + 256 * y) % 256 ≡ a = add-mul-mod-self-left a 256 y ∙ omega arith in
+    let q : (a + 256 * y) / 256 ≡ y = add-mul-div-left a y (omega arith) ∙ omega arith in
+    rw (p, q)
+
+two-bytes : (a b : ℕ) → a < 256 → b < 256 → little-endian 2 (a + 256 * b) ≡ a ∷ b ∷ []
+unfolding little-endian
+two-bytes a b ha hb =
+    let p : b ≡ b + 256 * 0 = omega arith in
+    low-byte 1 a b ha ∙ ap (λ (l : List ℕ). a ∷ l) (ap (little-endian 1) p ∙ low-byte 0 b 0 hb)
+
+four-bytes : (a b c d : ℕ) → a < 256 → b < 256 → c < 256 → d < 256 → little-endian 4 ((a + 256 * b) + 65_536 * (c + 256 * d)) ≡ a ∷ b ∷ c ∷ d ∷ []
+four-bytes a b c d ha hb hc hd =
+    let p : (a + 256 * b) + 65_536 * (c + 256 * d) ≡ a + 256 * (b + 256 * (c + 256 * d)) = omega arith in
+    rw (p, low-byte 3 a (b + 256 * (c + 256 * d)) ha, low-byte 2 b (c + 256 * d) hb, two-bytes c d hc hd)
+
+-- ---- a number further on
+
+pub u16-drop : (file : List ℕ) (at i : ℕ) → u16-at file (at + i) ≡ u16-at (drop at file) i
+unfolding u16-at
+u16-drop file at i =
+    let p : at + i + 1 ≡ at + (i + 1) = omega arith in
+    rw (getD-drop at file i 0, getD-drop at file (i + 1) 0, p)
+
+pub u32-drop : (file : List ℕ) (at i : ℕ) → u32-at file (at + i) ≡ u32-at (drop at file) i
+unfolding u32-at
+u32-drop file at i =
+    let p : at + i + 2 ≡ at + (i + 2) = omega arith in
+    rw (p, u16-drop file at i, u16-drop file at (i + 2))
+
+-- ---- a record
+
+-- what a record's bytes say
+abbrev pub row-in : List ℕ → Fragment
+row-in bytes = record { hut = u16-at bytes 1; area = u16-at bytes 3; clock = u32-at bytes 5 }
+
+abbrev pub column-in : List ℕ → Event
+column-in bytes = record { area = u16-at bytes 1; clock = u32-at bytes 3 }
+
+-- what is written reads back
+pub row-back : (f : Fragment) (rest : List ℕ) → RowFits f → row-in (line-bytes (row f) ++ rest) ≡ f
+unfolding line-bytes little-endian u16-at u32-at
+row-back f rest h =
+    let p = back16 (f .hut) (h .hut) in
+    let q = back16 (f .area) (h .area) in
+    let r = back32 (f .clock) (h .clock) in
+    λ i. record { hut = p i; area = q i; clock = r i }
+
+-- a size and an event have the same body: two bytes and four
+pub six-back : (kind x y : ℕ) (rest : List ℕ) → x < 65_536 → y < 4_294_967_296
+    → column-in (kind ∷ (little-endian 2 x ++ little-endian 4 y ++ rest)) ≡ record { area = x; clock = y }
+unfolding little-endian u16-at u32-at
+six-back kind x y rest hx hy =
+    let p = back16 x hx in
+    let q = back32 y hy in
+    λ i. record { area = p i; clock = q i }
+
+-- bytes, wherever one looks
+abbrev pub Small : List ℕ → Type 0
+Small bytes = (i : ℕ) → getD bytes i 0 < 256
+
+small16 : (bytes : List ℕ) (p : ℕ) → Small bytes → u16-at bytes p < 65_536
+unfolding u16-at
+small16 bytes p h = omega (arith, h p, h (p + 1))
+
+small32 : (bytes : List ℕ) (p : ℕ) → Small bytes → u32-at bytes p < 4_294_967_296
+unfolding u32-at
+small32 bytes p h = omega (arith, small16 bytes p h, small16 bytes (p + 2) h)
+
+pub row-fits : (bytes : List ℕ) → Small bytes → RowFits (row-in bytes)
+row-fits bytes h = record { hut = small16 bytes 1 h; area = small16 bytes 3 h; clock = small32 bytes 5 h }
+
+pub column-fits : (bytes : List ℕ) → Small bytes → ColumnFits (column-in bytes)
+column-fits bytes h = record { area = small16 bytes 1 h; clock = small32 bytes 3 h }
+
+-- the first bytes one by one, then the rest
+abbrev heads : ℕ → (ℕ → ℕ) → List ℕ → List ℕ
+heads zero f rest = rest
+heads (suc k) f rest = f 0 ∷ heads k (λ i. f (suc i)) rest
+
+one-by-one : (k : ℕ) (bytes : List ℕ) → k ≤ length bytes → bytes ≡ heads k (λ i. getD bytes i 0) (drop k bytes)
+one-by-one zero bytes h = refl
+one-by-one (suc k) [] h = absurd (omega arith)
+one-by-one (suc k) (x ∷ bytes) h = ap (λ (l : List ℕ). x ∷ l) (one-by-one k bytes (omega arith))
+
+-- a record of its kind and length is what is written of what it says
+module _ (bytes : List ℕ) (small : Small bytes) where
+  two-from : (p : ℕ) → little-endian 2 (u16-at bytes p) ≡ getD bytes p 0 ∷ getD bytes (p + 1) 0 ∷ []
+  unfolding u16-at
+  two-from p = two-bytes (getD bytes p 0) (getD bytes (p + 1) 0) (small p) (small (p + 1))
+
+  four-from : (p : ℕ) → little-endian 4 (u32-at bytes p)
+      ≡ getD bytes p 0 ∷ getD bytes (p + 1) 0 ∷ getD bytes (p + 2) 0 ∷ getD bytes (p + 2 + 1) 0 ∷ []
+  unfolding u16-at u32-at
+  four-from p =
+      four-bytes (getD bytes p 0) (getD bytes (p + 1) 0) (getD bytes (p + 2) 0) (getD bytes (p + 2 + 1) 0)
+      (small p) (small (p + 1)) (small (p + 2)) (small (p + 2 + 1))
+
+  pub row-written : 9 ≤ length bytes → getD bytes 0 0 ≡ 2 → bytes ≡ line-bytes (row (row-in bytes)) ++ drop 9 bytes
+  unfolding line-bytes
+  row-written l e =
+      rw (two-from 1, two-from 3, four-from 5) (one-by-one 9 bytes l ∙ ap (λ k. k ∷ heads 8 (λ i. getD bytes (suc i) 0) (drop 9 bytes)) e)
+
+  pub six-written : {kind : ℕ} → 7 ≤ length bytes → getD bytes 0 0 ≡ kind
+      → bytes ≡ kind ∷ (little-endian 2 (u16-at bytes 1) ++ little-endian 4 (u32-at bytes 3) ++ drop 7 bytes)
+  six-written l e = rw (two-from 1, four-from 3) (one-by-one 7 bytes l ∙ ap (λ k. k ∷ heads 6 (λ i. getD bytes (suc i) 0) (drop 7 bytes)) e)
