@@ -38,9 +38,21 @@ pub example-body : body example 25 ≡ (3 ∷ 0 ∷ 180 ∷ 20 ∷ 0 ∷ 0 ∷ [
 unfolding body part found known body-length
 example-body = refl
 
--- no kind byte; a body cut; a kind unknown; an end first; a size again, good or bad; sizes 0 and 65; an end too early; a byte after the end
-pub shortest : (judged [] ≡ refused 21 0) × (judged (2 ∷ []) ≡ refused 21 0) × (judged (0 ∷ []) ≡ refused 22 0) × (judged (4 ∷ []) ≡ refused 23 0)
-    × (judged (two ++ two) ≡ refused 23 7) × (judged (two ++ (1 ∷ replicate 6 0)) ≡ refused 23 7) × (judged (1 ∷ replicate 6 0) ≡ refused 25 0) × (judged (1 ∷ 65 ∷ replicate 5 0) ≡ refused 25 0)
-    × (judged (two ++ (4 ∷ [])) ≡ refused 24 7) × (judged (example ++ (0 ∷ [])) ≡ refused 26 40)
+-- one row, a window of 0 ms
+abbrev pub one : List ℕ
+one = 1 ∷ 1 ∷ 0 ∷ 0 ∷ 0 ∷ 0 ∷ 0 ∷ []
+
+-- the shortest file of each refusal, as docs/CASE-FILE.md has them
+pub shortest : (judged [] ≡ refused 21 0) × (judged (0 ∷ []) ≡ refused 22 0) × (judged (4 ∷ []) ≡ refused 23 0) × (judged (1 ∷ replicate 6 0) ≡ refused 25 0)
+    × (judged (one ++ (4 ∷ [])) ≡ refused 24 7)
+    × (judged (one ++ (2 ∷ replicate 8 0) ++ (3 ∷ replicate 6 0) ++ (4 ∷ 0 ∷ [])) ≡ refused 26 24)
 unfolding judged judge-from judge-record record-of size fragment event end bad-size found known body-length u16-at u32-at
-shortest = (refl, refl, refl, refl, refl, refl, refl, refl, refl, refl)
+shortest = (refl, refl, refl, refl, refl, refl)
+
+-- a body cut, also of a second size; a size again, good or bad; sizes 0 and 65; too many of a kind; no end; a byte after the end
+pub further : (judged (2 ∷ []) ≡ refused 21 0) × (judged (two ++ (1 ∷ [])) ≡ refused 21 7) × (judged (two ++ two) ≡ refused 23 7) × (judged (two ++ (1 ∷ replicate 6 0)) ≡ refused 23 7)
+    × (judged (1 ∷ 65 ∷ replicate 5 0) ≡ refused 25 0) × (judged (1 ∷ 65 ∷ 0 ∷ replicate 4 255) ≡ refused 25 0)
+    × (judged (one ++ (3 ∷ replicate 6 0) ++ (3 ∷ replicate 6 0)) ≡ refused 24 14) × (judged (one ++ (3 ∷ replicate 6 0)) ≡ refused 21 14)
+    × (judged (example ++ (0 ∷ [])) ≡ refused 26 40)
+unfolding judged judge-from judge-record record-of size fragment event end bad-size found known body-length u16-at u32-at
+further = (refl, refl, refl, refl, refl, refl, refl, refl, refl)
