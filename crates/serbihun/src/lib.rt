@@ -8,6 +8,8 @@ ghost use Rattle.munkres.specs.View.{task, buffers};
 ghost use Rattle.serbihun.specs.Bytes.{little-endian, twos-complement, cost-of, decoded, readable};
 use steps::Answer;
 
+mod case;
+
 // The number that four bytes write, the lowest first.
 fn number(b0: u8, b1: u8, b2: u8, b3: u8) -> u32
     ensures { λ r. ⌜ r ≡ little-endian b0 b1 b2 b3 ⌝ }

@@ -1,0 +1,48 @@
+-- `serbihun_record` gives the part of the file where `find` found a body; its start fits because the body lies within the file.
+use mathlib.Core.Path.{sym, ap, _∙_}
+use native.Mathlib.Omega.{arith}
+use borrow.Author.Needs.{needs}
+use Rattle.storm_case.proofs.RecordLaws.{found-fits}
+use Rattle.serbihun.specs.Case.{record-at}
+use Rattle.serbihun.proofs.case.serbihun_record.Statement.{statement}
+use Rattle.serbihun.proofs.case.serbihun_record.Tie as tie
+
+find-requires : tie.Need-find-requires
+find-requires c κs = search needs
+
+enum-known-length : tie.Need-enum-known-length
+enum-known-length c = search needs
+
+add-t6 : tie.Need-add-t6
+add-t6 c = omega (arith, found-fits _ _ (c .before .before .before .find .ensures) (c .before .length .given .1))
+
+enum-told : tie.Need-enum-told
+enum-told c = search needs
+
+enum-told-2 : tie.Need-enum-told-2
+enum-told-2 c = search needs
+
+returns : tie.Need-returns
+unfolding record-at
+returns c = ap (record-at _) (sym (c .before .length .given .1) ∙ c .before .before .before .find .ensures)
+
+returns-2 : tie.Need-returns-2
+unfolding record-at
+returns-2 c = ap (record-at _) (sym (c .enum-told .given .1) ∙ c .before .before .find .ensures)
+
+returns-3 : tie.Need-returns-3
+unfolding record-at
+returns-3 c = ap (record-at _) (sym (c .enum-told2 .given .1) ∙ c .before .before .find .ensures)
+
+pub serbihun-record-spec : {M : Type 1} → statement M
+serbihun-record-spec =
+    tie.close
+    (tie.spec
+    find-requires
+    enum-known-length
+    add-t6
+    enum-told
+    enum-told-2
+    returns
+    returns-2
+    returns-3)

@@ -1,0 +1,57 @@
+// The C face of the case reader: what a case file says, the hut of a row, and where a record's body is.
+ghost use mathlib.Core.Path.{_≡_};
+ghost use Rattle.storm_case.specs.Case.{read, hut};
+ghost use Rattle.storm_case.specs.Records.{found};
+ghost use Rattle.serbihun.specs.Case.{hut-number, record-at};
+use storm_case::{Case, Found, Hut};
+
+// Where a record's body is, as a part of the file.
+#[repr(C)]
+pub struct Record {
+    pub number: u32,
+    pub start: usize,
+    pub length: usize,
+}
+
+// `storm_case::read_case`.
+#[no_mangle]
+pub extern "C" fn serbihun_read_case(file: &[u8], costs: &mut [i32], mask: &mut [u8]) -> Case
+    ensures { λ r. ⌜ (r, now (costs .exit), now (mask .exit)) ≡ read (now (file .entry)) (now (costs .entry)) (now (mask .entry)) ⌝ }
+{
+    storm_case::read_case(file, costs, mask)
+}
+
+// `storm_case::hut_of`. A hut has 16 bits, so absent is the first number above them.
+#[no_mangle]
+pub extern "C" fn serbihun_hut(file: &[u8], row: usize) -> u32
+    ensures { λ r. ⌜ r ≡ hut-number (hut (now (file .entry)) row) ⌝ }
+{
+    match storm_case::hut_of(file, row) {
+        Hut::At(hut) => hut as u32,
+        Hut::Absent => 65_536,
+    }
+}
+
+// `storm_case::find`, with the place of the body that is there.
+#[no_mangle]
+pub extern "C" fn serbihun_record(file: &[u8], at: usize) -> Record
+    ensures { λ r. ⌜ r ≡ record-at at (found (now (file .entry)) at) ⌝ }
+{
+    match storm_case::find(file, at) {
+        Found::Body(length) => Record {
+            number: 0,
+            start: at + 1,
+            length,
+        },
+        Found::Cut => Record {
+            number: 21,
+            start: 0,
+            length: 0,
+        },
+        Found::Unknown => Record {
+            number: 22,
+            start: 0,
+            length: 0,
+        },
+    }
+}
