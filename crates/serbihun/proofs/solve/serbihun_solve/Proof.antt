@@ -3,8 +3,8 @@ use mathlib.Core.Path.{sym}
 use lib.Seq.{length-take-le}
 use Rattle.serbihun.proofs.ByteLaws.{readable-fits, readable-few, read-promise}
 use borrow.Author.Needs.{needs}
-use Rattle.serbihun.proofs.serbihun_solve.Statement.{statement}
-use Rattle.serbihun.proofs.serbihun_solve.Tie as tie
+use Rattle.serbihun.proofs.solve.serbihun_solve.Statement.{statement}
+use Rattle.serbihun.proofs.solve.serbihun_solve.Tie as tie
 
 cells-to-read-requires : tie.Need-cells-to-read-requires
 cells-to-read-requires c κs = search needs

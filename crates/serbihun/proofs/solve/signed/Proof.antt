@@ -5,8 +5,8 @@ use borrow.Author.Needs.{needs}
 use mir.Syntax.{w32}
 use mir.Facts.{toZ-pos, toZ-ofZ}
 use Rattle.serbihun.proofs.ByteLaws.{low-half, high-half, wide-fits, wide-back, narrow-fits}
-use Rattle.serbihun.proofs.signed.Statement.{statement}
-use Rattle.serbihun.proofs.signed.Tie as tie
+use Rattle.serbihun.proofs.solve.signed.Statement.{statement}
+use Rattle.serbihun.proofs.solve.signed.Tie as tie
 
 cast-result : tie.Need-cast-result
 cast-result c = search needs
