@@ -3,7 +3,9 @@ ghost use mathlib.Core.Path.{_≡_};
 ghost use Rattle.storm_case.specs.Case.{read, hut};
 ghost use Rattle.storm_case.specs.Records.{found};
 ghost use Rattle.serbihun.specs.Case.{hut-number, record-at};
-use storm_case::{Case, Found, Hut};
+use storm_case::Case;
+use storm_case::Found;
+use storm_case::Hut;
 
 // Where a record's body is, as a part of the file.
 #[repr(C)]
@@ -38,11 +40,14 @@ pub extern "C" fn serbihun_record(file: &[u8], at: usize) -> Record
     ensures { λ r. ⌜ r ≡ record-at at (found (now (file .entry)) at) ⌝ }
 {
     match storm_case::find(file, at) {
-        Found::Body(length) => Record {
-            number: 0,
-            start: at + 1,
-            length,
-        },
+        Found::Body(length) => {
+            let start = at + 1;
+            Record {
+                number: 0,
+                start,
+                length,
+            }
+        }
         Found::Cut => Record {
             number: 21,
             start: 0,

@@ -13,8 +13,8 @@ find-requires c κs = search needs
 enum-known-length : tie.Need-enum-known-length
 enum-known-length c = search needs
 
-add-t6 : tie.Need-add-t6
-add-t6 c = omega (arith, found-fits _ _ (c .before .before .before .find .ensures) (c .before .length .given .1))
+add-start : tie.Need-add-start
+add-start c = omega (arith, found-fits _ _ (c .before .before .before .find .ensures) (c .before .length .given .1))
 
 enum-told : tie.Need-enum-told
 enum-told c = search needs
@@ -40,7 +40,7 @@ serbihun-record-spec =
     (tie.spec
     find-requires
     enum-known-length
-    add-t6
+    add-start
     enum-told
     enum-told-2
     returns
