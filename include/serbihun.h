@@ -1,4 +1,5 @@
 /* The C face of the assignment solver: n rows are paired with n columns at least total cost.
+   And of the case reader: a case file says costs and a mask to solve.
 
    Link target/staticlib/libserbihun.a, which `rt staticlib serbihun` makes, on x86-64 Linux.
    The library allocates nothing, keeps nothing between calls, and checks every number that it
@@ -65,6 +66,75 @@ struct serbihun_answer serbihun_solve(
     uint16_t *columns, size_t columns_length,
     int64_t *row_prices, size_t row_prices_length,
     int64_t *column_prices, size_t column_prices_length);
+
+/* ---- The case reader
+
+   A case file is records: one byte of kind, then a body whose length the kind fixes, its numbers
+   little-endian.
+
+     1 size      n u16, window u32
+     2 fragment  hut u16, area u16, clock u32 in ms
+     3 event     area u16, clock u32 in ms
+     4 end       none
+
+   One size first, n fragments and n events in any mixture, one end, nothing after. Row i is the
+   i-th fragment, column j the j-th event. They may be paired where their areas are equal and
+   their clocks at most the window apart; that difference of the clocks is the cost. */
+
+enum {
+    SERBIHUN_ROOM = 4096,   /* how many costs, and how many mask bytes, are lent to the reader   */
+    SERBIHUN_NO_HUT = 65536 /* above every hut                                                   */
+};
+
+/* Records are judged one after another, each by 21, 22, 23, 25, 24, 26 in this order; the first
+   that applies is given. */
+enum serbihun_case_number {
+    SERBIHUN_ACCEPTED = 0,      /* the file is a case                                            */
+    SERBIHUN_WRONG_ROOM = 20,   /* the room is another; the file was not looked at               */
+    SERBIHUN_CUT = 21,          /* the file ends where a kind or body byte is due                */
+    SERBIHUN_UNKNOWN_KIND = 22, /* the kind is not 1 to 4                                        */
+    SERBIHUN_WRONG_ORDER = 23,  /* the first record is not a size, or another one is             */
+    SERBIHUN_WRONG_COUNT = 24,  /* one fragment or event too many, or too few at the end record  */
+    SERBIHUN_BAD_SIZE = 25,     /* n is 0 or above 64, or the window above 1,000,000,000         */
+    SERBIHUN_BYTES_AFTER = 26   /* bytes follow the end record                                   */
+};
+
+struct serbihun_case {
+    uint32_t number; /* one of the above                                                       */
+    size_t place;    /* at 21 to 25 the offset of the record's kind byte, which is the file's
+                        length where there is none; at 26 of the first extra byte; else 0      */
+    size_t n;        /* at 0 the size, 1 to 64; else 0                                         */
+    uint32_t window; /* at 0 the window, at most 1,000,000,000; else 0                         */
+};
+
+/* What a file says.
+
+   Read:     file   any bytes
+   Written:  costs  SERBIHUN_ROOM: at 0 the first n n are the costs, 0 where forbidden
+             mask   SERBIHUN_ROOM: at 0 the first n n are 1 where row and column may be paired,
+                    0 where not
+
+   The rest of costs and mask is untouched, and at 20 to 26 all of them. On a little-endian
+   machine the first n n costs are the 4 n n bytes that serbihun_solve reads. */
+struct serbihun_case serbihun_read_case(
+    const uint8_t *file, size_t file_length,
+    int32_t *costs, size_t costs_length,
+    uint8_t *mask, size_t mask_length);
+
+/* The hut of a row of the same file, 0 to 65,535; SERBIHUN_NO_HUT where the row is not below n,
+   or the file is refused. */
+uint32_t serbihun_hut(const uint8_t *file, size_t file_length, size_t row);
+
+struct serbihun_record {
+    uint32_t number; /* 0 where a body is there, else SERBIHUN_CUT or SERBIHUN_UNKNOWN_KIND     */
+    size_t start;    /* at 0 the offset of the body's first byte, at + 1; else 0               */
+    size_t length;   /* at 0 how many bytes the body has, 0 to 8; else 0                       */
+};
+
+/* The body of the record whose kind byte is at an offset: always a part of the file, and an empty
+   one at 21 and 22. Nothing else of the file is judged. The next record's kind byte is due at
+   start + length. */
+struct serbihun_record serbihun_record(const uint8_t *file, size_t file_length, size_t at);
 
 #ifdef __cplusplus
 }
