@@ -1,4 +1,4 @@
-//! The one call across: the C function of include/serbihun.h, over slices.
+//! The calls across: the C functions of include/serbihun.h, over slices.
 use crate::Buffers;
 
 #[cfg(not(all(target_arch = "x86_64", target_os = "linux")))]
@@ -15,6 +15,23 @@ pub struct Answer {
     pub augmentations: u32,
     pub block_rows: u64,
     pub block_columns: u64,
+}
+
+/// Field for field `struct serbihun_case`.
+#[repr(C)]
+pub struct Case {
+    pub number: u32,
+    pub place: usize,
+    pub n: usize,
+    pub window: u32,
+}
+
+/// Field for field `struct serbihun_record`.
+#[repr(C)]
+pub struct Record {
+    pub number: u32,
+    pub start: usize,
+    pub length: usize,
 }
 
 extern "C" {
@@ -37,6 +54,19 @@ extern "C" {
         column_prices: *mut i64,
         column_prices_length: usize,
     ) -> Answer;
+
+    fn serbihun_read_case(
+        file: *const u8,
+        file_length: usize,
+        costs: *mut i32,
+        costs_length: usize,
+        mask: *mut u8,
+        mask_length: usize,
+    ) -> Case;
+
+    fn serbihun_hut(file: *const u8, file_length: usize, row: usize) -> u32;
+
+    fn serbihun_record(file: *const u8, file_length: usize, at: usize) -> Record;
 }
 
 pub fn solve(n: usize, costs: &[i32], mask: &[u8], budget: u32, buffers: &mut Buffers) -> Answer {
@@ -62,4 +92,28 @@ pub fn solve(n: usize, costs: &[i32], mask: &[u8], budget: u32, buffers: &mut Bu
             buffers.column_prices.len(),
         )
     }
+}
+
+pub fn read_case(file: &[u8], costs: &mut [i32], mask: &mut [u8]) -> Case {
+    // SAFETY: every pointer comes from a slice with its length; the two that are written are borrowed for writing.
+    unsafe {
+        serbihun_read_case(
+            file.as_ptr(),
+            file.len(),
+            costs.as_mut_ptr(),
+            costs.len(),
+            mask.as_mut_ptr(),
+            mask.len(),
+        )
+    }
+}
+
+pub fn hut(file: &[u8], row: usize) -> u32 {
+    // SAFETY: the pointer comes from a slice with its length, and nothing is written.
+    unsafe { serbihun_hut(file.as_ptr(), file.len(), row) }
+}
+
+pub fn record(file: &[u8], at: usize) -> Record {
+    // SAFETY: the pointer comes from a slice with its length, and nothing is written.
+    unsafe { serbihun_record(file.as_ptr(), file.len(), at) }
 }

@@ -16,8 +16,13 @@
 //! assert!(matches!(answer, Answer::Paired { total: -1, .. }));
 //! assert_eq!(buffers.columns, [1, 0, 2]);
 //! ```
+//!
+//! And of the case reader: [`read_case`] takes costs and mask from a case file.
 
 mod c;
+mod case;
+
+pub use case::{hut, read_case, record, Case, CaseRefusal, NoBody, ROOM};
 
 /// The largest n.
 pub const LIMIT: usize = 64;
