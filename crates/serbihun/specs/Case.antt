@@ -1,4 +1,4 @@
--- The case reader's answers as C's: the hut of a row as a number, and a record's body as a part of the file.
+-- The case reader's answers in C: the hut of a row as a number, and the body of a record as a part of the file.
 use Prim.Native.Nat.{ℕ, _+_}
 use Rattle.storm_case.specs.declared.Found.{Found}
 use Rattle.storm_case.specs.declared.Found.the-variants.{Body, Cut, Unknown}
@@ -12,10 +12,10 @@ hut-number (At hut) = hut
 hut-number Absent = 65_536
 
 abbrev pub part-of-file : ℕ → ℕ → ℕ → Record
-part-of-file number start length = record { number = number; start = start; length = length }
+part-of-file number start n = record { number = number; start = start; length = n }
 
 -- the body is behind the kind byte at the offset; 21 the file ends where a kind or body byte is due; 22 the kind is unknown
 unfoldable pub record-at : ℕ → Found → Record
-record-at at (Body length) = part-of-file 0 (at + 1) length
+record-at at (Body n) = part-of-file 0 (at + 1) n
 record-at at Cut = part-of-file 21 0 0
 record-at at Unknown = part-of-file 22 0 0

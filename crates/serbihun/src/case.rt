@@ -15,7 +15,7 @@ pub struct Record {
     pub length: usize,
 }
 
-// `storm_case::read_case`.
+// Reads a file into room for 4,096 costs and 4,096 mask bytes: `storm_case::read_case`.
 #[no_mangle]
 pub extern "C" fn serbihun_read_case(file: &[u8], costs: &mut [i32], mask: &mut [u8]) -> Case
     ensures { λ r. ⌜ (r, now (costs .exit), now (mask .exit)) ≡ read (now (file .entry)) (now (costs .entry)) (now (mask .entry)) ⌝ }
@@ -23,7 +23,7 @@ pub extern "C" fn serbihun_read_case(file: &[u8], costs: &mut [i32], mask: &mut 
     storm_case::read_case(file, costs, mask)
 }
 
-// `storm_case::hut_of`. A hut has 16 bits, so absent is the first number above them.
+// The hut of a row: `storm_case::hut_of`. A hut has 16 bits, so absent is the first number above them.
 #[no_mangle]
 pub extern "C" fn serbihun_hut(file: &[u8], row: usize) -> u32
     ensures { λ r. ⌜ r ≡ hut-number (hut (now (file .entry)) row) ⌝ }
@@ -34,7 +34,7 @@ pub extern "C" fn serbihun_hut(file: &[u8], row: usize) -> u32
     }
 }
 
-// `storm_case::find`, with the place of the body that is there.
+// The body of the record at an offset, as a part of the file: `storm_case::find`, with where the body starts.
 #[no_mangle]
 pub extern "C" fn serbihun_record(file: &[u8], at: usize) -> Record
     ensures { λ r. ⌜ r ≡ record-at at (found (now (file .entry)) at) ⌝ }
