@@ -1,3 +1,4 @@
 pub mod ByteLaws
 pub mod RoundTrip
 pub mod CaseFace
+pub mod Theorems

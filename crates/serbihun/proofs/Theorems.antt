@@ -1,0 +1,12 @@
+-- Theorem: two answers of `storm_case::pair_case` that meet its promise are equal, closed here with the law of the solver's answers.
+use mathlib.Core.Path.{_≡_}
+use mathlib.Core.List.{List}
+use Prim.Native.Nat.{ℕ}
+use Rattle.steps.proofs.Theorems.{only-answer}
+use Rattle.storm_case.specs.declared.pair.Pairs.{Pairs}
+use Rattle.storm_case.specs.Pair.{Room, PairPromise}
+use Rattle.storm_case.proofs.OnlyPairs as given
+
+pub only-pairs : (file : List ℕ) (before : Room) {p p′ : Pairs} {after after′ : Room}
+    → PairPromise file before p after → PairPromise file before p′ after′ → (p ≡ p′) × (after ≡ after′)
+only-pairs = given.only-pairs (λ t before a a′ after after′ x y. only-answer x y)
