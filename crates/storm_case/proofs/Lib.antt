@@ -15,3 +15,4 @@ pub mod FormatBytes
 pub mod FormatScan
 pub mod FormatTaken
 pub mod FormatLaws
+pub mod FormatReader

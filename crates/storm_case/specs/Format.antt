@@ -1,10 +1,13 @@
 -- The case file as a format, told without the reader: the bytes of a list of records, which are well formed, and what they say.
 use mathlib.Core.Path.{_≡_}
 use mathlib.Core.List.{List, [], _∷_, _++_}
-use Prim.Native.Nat.{ℕ, zero, suc, _/_, _%_, _≤_, _<_}
-use lib.ListN.{length, getD}
+use Prim.Native.Nat.{ℕ, zero, suc, _+_, _-_, _*_, _/_, _%_, _≤_, _<_, min, max}
+use lib.IntN.{ℤ, pos}
+use lib.ListN.{length, getD, drop}
+use Rattle.lines.specs.Square.{cell}
+use Rattle.storm_case.specs.declared.Case.{Case}
 use Rattle.storm_case.specs.Scan.{Scan, accepted, judged}
-use Rattle.storm_case.specs.Case.{hut-of, row-area, row-clock, column-area, column-clock}
+use Rattle.storm_case.specs.Case.{case, hut-of, row-area, row-clock, column-area, column-clock}
 
 pub record Fragment : Type 0 where
   pub hut : ℕ
@@ -124,3 +127,26 @@ pub record Reads (file : List ℕ) (s : Scan) : Type 0 where
   pub well-formed : WellFormed (s .n) (s .window) lines
   pub written : file ≡ encode (s .n) (s .window) lines
   pub tells : Tells file s (s .n) (s .window) lines
+
+-- ---- what the reader gives for a case
+
+-- equal areas, and clocks at most the window apart
+pub record Allowed (window : ℕ) (f : Fragment) (e : Event) : Type 0 where
+  pub same-area : f .area ≡ e .area
+  pub not-later : f .clock ≤ e .clock + window
+  pub not-earlier : e .clock ≤ f .clock + window
+
+-- the cost and the mask byte of a pair
+pub record PairIs (window : ℕ) (f : Fragment) (e : Event) (cost : ℤ) (byte : ℕ) : Type 0 where
+  pub allowed : Allowed window f e → (byte ≡ 1) × (cost ≡ pos (max (f .clock) (e .clock) - min (f .clock) (e .clock)))
+  pub forbidden : (Allowed window f e → ⊥) → (byte ≡ 0) × (cost ≡ pos 0)
+
+-- number 0, the first n * n cells by their row and column, the rest as it was lent
+pub record ReadAs (n window : ℕ) (lines : List Line) (costs : List ℤ) (mask : List ℕ) (answer : Case × List ℤ × List ℕ) : Type 0 where
+  pub case-is : answer .0 ≡ case 0 0 n window
+  pub pair-is : (i j : ℕ) → i < n → j < n
+      → PairIs window (row-at lines i) (column-at lines j) (cell (pos 0) n (answer .1) i j) (cell 0 n (answer .2) i j)
+  pub costs-long : length (answer .1) ≡ length costs
+  pub mask-long : length (answer .2) ≡ length mask
+  pub other-costs : drop (n * n) (answer .1) ≡ drop (n * n) costs
+  pub other-mask : drop (n * n) (answer .2) ≡ drop (n * n) mask
