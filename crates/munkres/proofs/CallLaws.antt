@@ -51,12 +51,9 @@ module _ (n : ℕ) (costs : List ℤ) (r : Run) (marks before : List ℕ) where
       → a ≡ answer 6 0 (pos 0) r rows columns → Given n costs r marks before (view-next x) a before
   given-blocked {x} {a} e er ec q = subst (λ x. Given n costs r marks before (view-next x) a before) (sym e) (refl, q ∙ rw (er, ec))
 
-  pub given-unfinished : {x : Next} {a : Answer} → x ≡ Unfinished → a ≡ answer 7 0 (pos 0) r 0 0 → Given n costs r marks before (view-next x) a before
-  given-unfinished {x} {a} e q = subst (λ x. Given n costs r marks before (view-next x) a before) (sym e) (refl, q)
-
--- a step that is not an end
-pub not-over : {x y : Next} → over (view-next x) ≡ true → x ≡ y → over (view-next y) ≡ false → ⊥
-not-over o e f = true≢false (sym o ∙ ap (λ x. over (view-next x)) e ∙ f)
+  -- everywhere else
+  pub given-there : (a : Answer) {x y : Next} → x ≡ y → Given n costs r marks before (view-next y) a before → Given n costs r marks before (view-next x) a before
+  given-there a e g = subst (λ x. Given n costs r marks before (view-next x) a before) (sym e) g
 
 -- ---- the verdict, refusal by refusal
 
@@ -201,27 +198,26 @@ module _ (n : ℕ) (costs : List ℤ) (mask : List ℕ) (budget : ℕ) (b : Buff
   working-kept c = c .good .fresh .shape .working ∙ sym (sizes .working)
 
   pub finish-asks : {before m : Machine} → Came n mask budget before m
-      → Square n costs × Square n (m .marks) × (length (b .columns) ≡ n) × (1 ≤ n) × (over (m .run .next) ≡ true)
+      → Square n costs × Square n (m .marks) × (length (b .columns) ≡ n) × (1 ≤ n)
       × (m .run .next ≡ S.Paired → (i : ℕ) → i < n → (star-in-row n (m .marks) i < n) × Within 1_000_000_000 (cost-at n costs i (star-in-row n (m .marks) i)))
   finish-asks c = (
     square (sizes .costs),
     square (c .good .fresh .shape .marks),
     sizes .columns,
     fit .fit .some,
-    c .ended,
     λ e i hi. let a = star-allowed (c .good) e i hi in (a .0, within i _ hi (a .0) (a .1)),
   )
 
-  given-is : (m : Machine) (x : S.Next) {a : Answer} {columns : List ℕ} → Given n costs (m .run) (m .marks) (b .columns) x a columns
+  given-is : (m : Machine) (x : S.Next) {a : Answer} {columns : List ℕ} → over x ≡ true → Given n costs (m .run) (m .marks) (b .columns) x a columns
       → given t b m x ≡ some (a, buffers (m .working) (m .marks) columns (m .row-prices) (m .column-prices))
   unfolding given chosen written
-  given-is m S.Paired g = rw (g .0, g .1)
-  given-is m S.NoPairing g = rw (g .0, g .1)
-  given-is m S.Unfinished g = rw (g .0, g .1)
-  given-is m S.Step3 g = absurd g
-  given-is m S.Step4 g = absurd g
-  given-is m (S.Step5 i j) g = absurd g
-  given-is m S.Step6 g = absurd g
+  given-is m S.Paired o g = rw (g .0, g .1)
+  given-is m S.NoPairing o g = rw (g .0, g .1)
+  given-is m S.Unfinished o g = rw (g .0, g .1)
+  given-is m S.Step3 o g = absurd (true≢false (sym o))
+  given-is m S.Step4 o g = absurd (true≢false (sym o))
+  given-is m (S.Step5 i j) o g = absurd (true≢false (sym o))
+  given-is m S.Step6 o g = absurd (true≢false (sym o))
 
   pub solved : {before m : Machine} {a : Answer} {columns : List ℕ} → before ≡ start n (allows n mask) (cost-at n costs) → Came n mask budget before m
       → Given n costs (m .run) (m .marks) (b .columns) (m .run .next) a columns
@@ -229,7 +225,7 @@ module _ (n : ℕ) (costs : List ℤ) (mask : List ℕ) (budget : ℕ) (b : Buff
   unfolding judged
   solved {before} {m} e c g = record {
     count = c .count;
-    exact = ap (judged t b (c .count)) v ∙ ap (λ (m : Machine). given t b m (m .run .next)) (sym (c .exact ∙ ap (steps n (allows n mask) budget (c .count)) e)) ∙ given-is m _ g;
+    exact = ap (judged t b (c .count)) v ∙ ap (λ (m : Machine). given t b m (m .run .next)) (sym (c .exact ∙ ap (steps n (allows n mask) budget (c .count)) e)) ∙ given-is m _ (c .ended) g;
   }
 
 -- ---- the verdict of a call

@@ -38,16 +38,16 @@ Adjusts n ok budget r working row-prices column-prices =
 abbrev pub Startable : ℕ → List ℕ → Type 0
 Startable n mask = (i : ℕ) → i < n → T (any (allows n mask i) n)
 
--- what an end gives back: the answer, and the columns
+-- what an end gives back: the answer, and the columns. A run that is at no end is unfinished.
 abbrev pub Given : ℕ → List ℤ → Run → List ℕ → List ℕ → Next → Answer → List ℕ → Type 0
 Given n costs r marks before Paired a columns =
     (columns ≡ table (star-in-row n marks) n) × (a ≡ answer 0 0 (total (cost-at n costs) n (table (star-in-row n marks) n)) r 0 0)
 Given n costs r marks before NoPairing a columns = (columns ≡ before) × (a ≡ answer 6 0 (pos 0) r (rest n (r .rows)) (rest n (r .columns)))
 Given n costs r marks before Unfinished a columns = (columns ≡ before) × (a ≡ answer 7 0 (pos 0) r 0 0)
-Given n costs r marks before Step3 a columns = ⊥
-Given n costs r marks before Step4 a columns = ⊥
-Given n costs r marks before (Step5 i j) a columns = ⊥
-Given n costs r marks before Step6 a columns = ⊥
+Given n costs r marks before Step3 a columns = (columns ≡ before) × (a ≡ answer 7 0 (pos 0) r 0 0)
+Given n costs r marks before Step4 a columns = (columns ≡ before) × (a ≡ answer 7 0 (pos 0) r 0 0)
+Given n costs r marks before (Step5 i j) a columns = (columns ≡ before) × (a ≡ answer 7 0 (pos 0) r 0 0)
+Given n costs r marks before Step6 a columns = (columns ≡ before) × (a ≡ answer 7 0 (pos 0) r 0 0)
 
 -- what holds of the machine between two steps of an accepted call
 pub record Good (n : ℕ) (mask : List ℕ) (budget : ℕ) (m : Machine) : Type 0 where

@@ -396,9 +396,9 @@ fn refused(number: u32, place: usize, rows: u64, columns: u64) -> Answer
     }
 }
 
-// What an end gives back. A run is over only at an end.
+// What an end gives back; elsewhere the run is unfinished.
 fn finish(n: usize, costs: &[i32], run: Run, marks: &[u8], columns: &mut [u16]) -> Answer
-    requires { ⌜ Square n (now costs) × Square n (now marks) × (length (now columns) ≡ n) × (1 ≤ n) × (over (view-next (run .next)) ≡ true)
+    requires { ⌜ Square n (now costs) × Square n (now marks) × (length (now columns) ≡ n) × (1 ≤ n)
         × (view-next (run .next) ≡ Paired → (i : ℕ) → i < n → (star-in-row n (now marks) i < n) × Within 1000000000 (cost-at n (now costs) i (star-in-row n (now marks) i))) ⌝ }
     ensures { λ r. ⌜ Given n (now (costs .entry)) (view run) (now (marks .entry)) (now (columns .entry)) (view-next (run .next)) r (now (columns .exit)) ⌝ }
 {
@@ -420,10 +420,10 @@ fn finish(n: usize, costs: &[i32], run: Run, marks: &[u8], columns: &mut [u16]) 
             )
         }
         Next::Unfinished => answer(7, 0, run, 0, 0),
-        Next::Step3 => answer(0, 0, run, 0, 0),
-        Next::Step4 => answer(0, 0, run, 0, 0),
-        Next::Step5(_, _) => answer(0, 0, run, 0, 0),
-        Next::Step6 => answer(0, 0, run, 0, 0),
+        Next::Step3 => answer(7, 0, run, 0, 0),
+        Next::Step4 => answer(7, 0, run, 0, 0),
+        Next::Step5(_, _) => answer(7, 0, run, 0, 0),
+        Next::Step6 => answer(7, 0, run, 0, 0),
     }
 }
 

@@ -1,9 +1,9 @@
--- `finish` meets its contract at each end. The arms of steps 3 to 6 are never reached: the run is over.
+-- `finish` meets its contract at each end, and elsewhere.
 use mathlib.Core.Path.{refl, ap, _∙_}
 use mir.Syntax.{w64}
 use mir.Facts.{toZ-ofZ}
 use Rattle.munkres.specs.View.{view-next}
-use Rattle.munkres.proofs.CallLaws.{given-paired, given-blocked, given-unfinished, not-over}
+use Rattle.munkres.proofs.CallLaws.{given-paired, given-blocked, given-there}
 use borrow.Author.Needs.{needs}
 use Rattle.munkres.proofs.finish.Statement.{statement}
 use Rattle.munkres.proofs.finish.Tie as tie
@@ -14,7 +14,7 @@ enum-told c = search needs
 choose-columns-requires : tie.Need-choose-columns-requires
 choose-columns-requires c κs =
     let p = c .before .before .before .before .before .pre in
-    let h = p .5 (ap view-next (c .before .enum-told .given .1)) in
+    let h = p .4 (ap view-next (c .before .enum-told .given .1)) in
     (p .0, p .1, p .2, (λ i hi. h i hi .0), λ i hi. h i hi .1)
 
 answer-requires : tie.Need-answer-requires
@@ -77,19 +77,19 @@ returns-2 c =
     (c .before .uncovered-lines2 .ensures) (c .answer2 .ensures)
 
 returns-3 : tie.Need-returns-3
-returns-3 c = given-unfinished _ _ _ _ _ (c .before .enum-told3 .given .1) (c .answer3 .ensures)
+returns-3 c = given-there _ _ _ _ _ _ (c .before .enum-told3 .given .1) (refl, c .answer3 .ensures)
 
 returns-4 : tie.Need-returns-4
-returns-4 c = absurd (not-over (c .before .before .before .before .before .pre .4) (c .before .enum-told4 .given .1) refl)
+returns-4 c = given-there _ _ _ _ _ _ (c .before .enum-told4 .given .1) (refl, c .answer4 .ensures)
 
 returns-5 : tie.Need-returns-5
-returns-5 c = absurd (not-over (c .before .before .before .before .before .pre .4) (c .before .enum-told5 .given .1) refl)
+returns-5 c = given-there _ _ _ _ _ _ (c .before .enum-told5 .given .1) (refl, c .answer5 .ensures)
 
 returns-6 : tie.Need-returns-6
-returns-6 c = absurd (not-over (c .before .before .before .before .before .pre .4) (c .before .enum-told6 .given .1) refl)
+returns-6 c = given-there _ _ _ _ _ _ (c .before .enum-told6 .given .1) (refl, c .answer6 .ensures)
 
 returns-7 : tie.Need-returns-7
-returns-7 c = absurd (not-over (c .before .before .before .before .before .pre .4) (c .before .enum-told7 .given .1) refl)
+returns-7 c = given-there _ _ _ _ _ _ (c .before .enum-told7 .given .1) (refl, c .answer7 .ensures)
 
 pub finish-spec : {M : Type 1} → statement M
 finish-spec =
