@@ -131,4 +131,6 @@ module _ {before : List ℕ} {used : ℕ} {text : List ℕ} {r : ℕ} {out : Lis
 pub holds-whole : {before text : List ℕ} {r : ℕ} {out : List ℕ} → Holds before 0 text r out → length text ≤ length before → take r out ≡ text
 unfolding put
 holds-whole {before} {text} h l =
-    ap (λ p. take (p .0) (p .1)) (h .held) ∙ front-taken before (take (length before) text) (omega (arith, length-take (length before) text)) ∙ take-all (length before) text l
+    ap (λ p. take (p .0) (p .1)) (h .held)
+    ∙ front-taken before (take (length before) text) (omega (arith, length-take (length before) text))
+    ∙ take-all (length before) text l

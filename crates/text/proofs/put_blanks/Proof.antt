@@ -40,7 +40,9 @@ loop-less : tie.Need-loop-less Inv-loop μ-loop
 loop-less c = omega arith
 
 loop-again : tie.Need-loop-again Inv-loop μ-loop
-loop-again c = pasting-more (c .before .loop .inv) (omega arith) _ (sym (blank-at _ _ (omega (arith, length-blanks (c .before .before .before .before .before .args .wanted)))))
+loop-again c =
+    let wanted = c .before .before .before .before .before .args .wanted in
+    pasting-more (c .before .loop .inv) (omega arith) _ (sym (blank-at wanted _ (omega (arith, length-blanks wanted))))
 
 add-result : tie.Need-add-result Inv-loop μ-loop
 add-result c = omega arith

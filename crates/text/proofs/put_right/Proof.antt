@@ -28,7 +28,8 @@ returns c =
     let same = toZ-ofZ (c .before .before .before .before .before .before .before .before .before .before .before .fits .z) in
     let front : Holds _ _ _ _ _ = record { held = c .before .before .before .before .before .before .put-blanks .ensures } in
     let length : _ ≡ _ = rw same at (c .before .before .before .before .before .before .before .before .signed-length .ensures) in
-    rw (right, ← length, ← (c .before .before .before .before .before .before .before .left-of .ensures)) (rw same at (holds-more front _ (c .before .before .put-signed .ensures) .held))
+    rw (right, ← length, ← (c .before .before .before .before .before .before .before .left-of .ensures))
+    (rw same at (holds-more front _ (c .before .before .put-signed .ensures) .held))
 
 pub put-right-spec : {M : Type 1} → statement M
 put-right-spec =

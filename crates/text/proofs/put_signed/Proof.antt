@@ -23,9 +23,10 @@ same-length c = search needs
 
 returns : tie.Need-returns
 returns c =
-    let s = c .before .before .before .before .before .before .before .before .before .before .before .before in
-    let sign : Holds _ _ (45 ∷ []) _ _ = record { held = c .before .before .before .before .before .before .put .ensures } in
-    rw (signed-below _ (s .fits .z) _ (c .before .before .before .before .before .before .before .before .before .before .magnitude .ensures) (c .before .before .before .before .before .before .before .before .before .if1 .taken))
+    let p = c .before .before .before .before .before .before in
+    let m = p .before .before .before .before in
+    let sign : Holds _ _ (45 ∷ []) _ _ = record { held = p .put .ensures } in
+    rw (signed-below _ (m .before .before .fits .z) _ (m .magnitude .ensures) (p .before .before .before .if1 .taken))
     (holds-more sign _ (c .before .before .put-decimal .ensures) .held)
 
 put-decimal-requires-2 : tie.Need-put-decimal-requires-2
@@ -36,8 +37,8 @@ same-length-2 c = search needs
 
 returns-2 : tie.Need-returns-2
 returns-2 c =
-    let s = c .before .before .before .before .before .before .before in
-    rw (signed-above _ (s .fits .z) _ (c .before .before .before .before .before .magnitude .ensures) (c .before .before .before .before .if1 .left)) (c .before .before .put-decimal2 .ensures)
+    let m = c .before .before .before .before .before in
+    rw (signed-above _ (m .before .before .fits .z) _ (m .magnitude .ensures) (c .before .before .before .before .if1 .left)) (c .before .before .put-decimal2 .ensures)
 
 pub put-signed-spec : {M : Type 1} → statement M
 put-signed-spec =
