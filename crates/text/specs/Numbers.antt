@@ -1,4 +1,4 @@
--- Numbers as text, in ASCII.
+-- Numbers as text, in ASCII, and the line of a refusal.
 use mathlib.Core.Bool.{cond}
 use mathlib.Core.List.{List, [], _∷_, _++_}
 use Prim.Native.Nat.{ℕ, zero, suc, _+_, _-_, _/_, _%_}
@@ -29,3 +29,7 @@ blanks n = replicate n 32
 -- blanks in front, up to a width
 unfoldable pub right : ℕ → List ℕ → List ℕ
 right width text = blanks (width - length text) ++ text
+
+-- the line `REFUSED k AT p`
+unfoldable pub refusal : ℕ → ℕ → List ℕ
+refusal number place = (82 ∷ 69 ∷ 70 ∷ 85 ∷ 83 ∷ 69 ∷ 68 ∷ 32 ∷ []) ++ decimal number ++ (32 ∷ 65 ∷ 84 ∷ 32 ∷ []) ++ decimal place ++ (10 ∷ [])

@@ -4,7 +4,7 @@ ghost use Prim.Native.Nat.{_-_, _≤_, min};
 ghost use lib.ListN.{length};
 ghost use lib.IntN.{natAbs};
 ghost use Rattle.text.specs.Text.{put as Text·put};
-ghost use Rattle.text.specs.Numbers.{decimal, signed, blanks, right};
+ghost use Rattle.text.specs.Numbers.{decimal, signed, blanks, right, refusal};
 
 fn least(a: usize, b: usize) -> usize
     ensures { λ r. ⌜ r ≡ min a b ⌝ }
@@ -109,4 +109,15 @@ pub fn put_right(out: &mut [u8], used: usize, width: usize, z: i64) -> usize
 {
     let at = put_blanks(out, used, left_of(width, signed_length(z)));
     put_signed(out, at, z)
+}
+
+// The line of a refusal, which every program prints alike.
+pub fn put_refusal(out: &mut [u8], used: usize, number: u32, place: usize) -> usize
+    ensures { λ r. ⌜ (r, now (out .exit)) ≡ Text·put (now (out .entry)) used (refusal number place) ⌝ }
+{
+    let after_word = put(out, used, b"REFUSED ");
+    let after_number = put_decimal(out, after_word, number as u64);
+    let after_at = put(out, after_number, b" AT ");
+    let after_place = put_decimal(out, after_at, place as u64);
+    put(out, after_place, b"\n")
 }
