@@ -1,52 +1,51 @@
+-- `put_rows` meets its contract: after so many rows their lines are put.
+use mathlib.Core.Path.{_≡_}
+use Prim.Native.Nat.{_-_, _≤_}
+use native.Mathlib.Omega.{arith}
+use borrow.Author.Needs.{needs}
+use Rattle.text.proofs.PutLaws.{Holds, holds-none, holds-more, holds-long}
+use Rattle.valley.specs.Lines.{row-lines}
+use Rattle.valley.proofs.LineLaws.{rows-more}
 use Rattle.valley.proofs.print.put_rows.Statement.{statement}
 use Rattle.valley.proofs.print.put_rows.Tie as tie
-use Rattle.valley.proofs.print.put_rows.Reads as reads
-use Rattle.valley.proofs.print.put_rows.Lts as lts
-use Rattle.storm_case.proofs.hut_of.Reads as hut-of-reads
-use Rattle.valley.proofs.print.column_of.Reads as column-of-reads
-use Rattle.valley.proofs.print.put_row.Reads as put-row-reads
 
 abbrev Inv-loop : tie.InvT-loop
-Inv-loop file n columns out₀ used₀ row₀ out used row = ?
+Inv-loop file n columns out₀ used₀ row₀ out used row = (row ≤ n) × Holds out₀ 0 (row-lines file columns row) used out
 
 abbrev μ-loop : tie.MeasureT-loop
-μ-loop file n columns out₀ used₀ row₀ out used row = ?
+μ-loop file n columns out₀ used₀ row₀ out used row = n - row
 
--- src/print.rt:38:5
 loop-holds : tie.Need-loop-holds Inv-loop μ-loop
-loop-holds c = ?
+unfolding row-lines
+loop-holds c = (omega arith, holds-none _)
 
--- src/print.rt:39:13
 hut-of-requires : tie.Need-hut-of-requires Inv-loop μ-loop
-hut-of-requires c κs = ?
+hut-of-requires c κs = search needs
 
--- src/print.rt:40:13
 column-of-requires : tie.Need-column-of-requires Inv-loop μ-loop
-column-of-requires c κs = ?
+column-of-requires c κs = search needs
 
--- src/print.rt:41:9
 put-row-requires : tie.Need-put-row-requires Inv-loop μ-loop
-put-row-requires c κs = ?
+put-row-requires c κs = search needs
 
--- src/print.rt:42:9
 add-row : tie.Need-add-row Inv-loop μ-loop
-add-row c = ?
+add-row c = omega arith
 
--- src/print.rt:38:5
 loop-less : tie.Need-loop-less Inv-loop μ-loop
-loop-less c = ?
+loop-less c = omega arith
 
--- src/print.rt:38:5
 loop-again : tie.Need-loop-again Inv-loop μ-loop
-loop-again c = ?
+loop-again c =
+    let hut = c .before .before .before .before .before in
+    (omega arith, rw (rows-more _ _ _ _ _ (hut .hut-of .ensures) (c .before .before .before .before .column-of .ensures)) (holds-more (hut .before .before .loop .inv .1) _ (c .before .before .put-row .ensures)))
 
--- src/print.rt:33:1
 same-length : tie.Need-same-length Inv-loop μ-loop
-same-length c = ?
+same-length c = holds-long (c .before .loop .inv .1)
 
--- src/print.rt:33:1
 returns : tie.Need-returns Inv-loop μ-loop
-returns c = ?
+returns c =
+    let all : c .before .loop .row ≡ c .before .before .before .before .before .args .n = omega arith in
+    rw (← all) (c .before .loop .inv .1 .held)
 
 pub put-rows-spec : {M : Type 1} → statement M
 put-rows-spec =

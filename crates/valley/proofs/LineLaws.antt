@@ -1,0 +1,33 @@
+-- The lines that are printed, as the code puts them together.
+use mathlib.Core.Path.{_≡_}
+use mathlib.Core.Logic.{_≢_}
+use mathlib.Core.List.{List, _++_}
+use Prim.Native.Nat.{ℕ, _+_}
+use native.Mathlib.Numerals.{add-one}
+use borrow.Author.Tests.{ne-eqb}
+use lib.ListN.{getD}
+use Rattle.storm_case.specs.declared.Hut.{Hut}
+use Rattle.storm_case.specs.declared.pair.Pairs.{Pairs}
+use Rattle.storm_case.specs.Case.{hut}
+use Rattle.text.specs.Numbers.{refusal}
+use Rattle.valley.specs.Lines.{row-line, row-lines, total-line, no-pairing, lines}
+
+-- one more row's line, at the code's `row + 1`
+pub rows-more : (file columns : List ℕ) (row : ℕ) (h : Hut) (k : ℕ) → h ≡ hut file row → k ≡ getD columns row 0
+    → row-lines file columns (row + 1) ≡ row-lines file columns row ++ row-line h k
+unfolding row-lines
+rows-more file columns row h k e f = rw (add-one row, e, f)
+
+-- which lines, by the answer's number
+module _ (file : List ℕ) (p : Pairs) (columns : List ℕ) where
+  pub lines-paired : p .number ≡ 0 → lines file p columns ≡ row-lines file columns (p .n) ++ total-line (p .total)
+  unfolding lines
+  lines-paired e = rw e
+
+  pub lines-none : p .number ≡ 6 → lines file p columns ≡ no-pairing
+  unfolding lines
+  lines-none e = rw e
+
+  pub lines-refused : p .number ≢ 0 → p .number ≢ 6 → lines file p columns ≡ refusal (p .number) (p .place)
+  unfolding lines
+  lines-refused d e = rw (ne-eqb _ _ d, ne-eqb _ _ e)
