@@ -1,2 +1,3 @@
 pub mod LineLaws
 pub mod ReportLaws
+pub mod Samples
