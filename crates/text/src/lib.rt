@@ -111,6 +111,14 @@ pub fn put_right(out: &mut [u8], used: usize, width: usize, z: i64) -> usize
     put_signed(out, at, z)
 }
 
+// A number at the right end of a width.
+pub fn put_decimal_right(out: &mut [u8], used: usize, width: usize, n: u64) -> usize
+    ensures { λ r. ⌜ (r, now (out .exit)) ≡ Text·put (now (out .entry)) used (right width (decimal n)) ⌝ }
+{
+    let at = put_blanks(out, used, left_of(width, decimal_length(n)));
+    put_decimal(out, at, n)
+}
+
 // The line of a refusal, which every program prints alike.
 pub fn put_refusal(out: &mut [u8], used: usize, number: u32, place: usize) -> usize
     ensures { λ r. ⌜ (r, now (out .exit)) ≡ Text·put (now (out .entry)) used (refusal number place) ⌝ }
