@@ -1,118 +1,105 @@
-// Why there is no pairing, in words: the fragments of the block, the few events that are left for them, and those of the block.
+// Why there is no pairing, in words: the fragments of the block, the events that are left for them, and the events of the block.
+ghost use Prim.Native.Nat.{_≤_};
 use crate::numbers;
+use crate::row;
+use crate::words;
 use storm_case::Pairs;
 
-// `it` and `this` for one, `each of them` and `each of these` for more.
+// One thing as `this event`, more as `these 2 events`.
 fn print_these(count: usize, one: &[u8], more: &[u8], thing: &[u8]) {
     if count == 1 {
-        numbers::print(one);
-        numbers::print(thing);
+        words::print(one);
+        words::print(thing);
         return;
     }
-    let mut words = [0u8; 64];
-    let used = numbers::put_counted(&mut words, 0, count, thing);
-    numbers::print(more);
-    numbers::print(&words[..used]);
+    words::print(more);
+    words::print_counted(count, thing);
 }
 
-fn put_row(out: &mut [u8], row: usize, hut: u16) -> usize {
-    let after_row = text::put_decimal_right(out, 0, 5, row as u64);
-    let after_hut = text::put_decimal_right(out, after_row, 7, hut as u64);
-    text::put(out, after_hut, b"\n")
-}
-
-fn print_row(row: usize, hut: u16) {
+fn print_hut(row: usize, hut: u16) {
     let mut line = [0u8; 64];
-    let used = put_row(&mut line, row, hut);
-    numbers::print(&line[..used]);
+    let used = row::put_hut(&mut line, row, hut);
+    words::print(&line[..used]);
 }
 
-fn print_rows(file: &[u8], n: usize, rows: u64) {
-    numbers::print(b"  row    hut\n");
+// The rows of the set, with their huts.
+fn print_rows(file: &[u8], n: usize, rows: u64)
+    requires { ⌜ n ≤ 64 ⌝ }
+{
+    words::print(b"  row    hut\n");
     let mut row = 0;
     while row < n {
         if numbers::has(rows, row) {
-            print_row(row, numbers::hut_of(file, row));
+            print_hut(row, row::hut_of(file, row));
         }
         row += 1;
     }
 }
 
-fn print_event(event: usize) {
-    let mut word = [0u8; 32];
-    let after_blank = text::put(&mut word, 0, b" ");
-    let used = text::put_decimal(&mut word, after_blank, event as u64);
-    numbers::print(&word[..used]);
-}
-
 // The events that the set has, or those that it has not.
-fn print_events(n: usize, events: u64, has: bool) {
-    numbers::print(b":");
+fn print_events(n: usize, events: u64, wanted: bool)
+    requires { ⌜ n ≤ 64 ⌝ }
+{
+    words::print(b":");
     let mut event = 0;
     while event < n {
-        if numbers::has(events, event) == has {
-            print_event(event);
+        if numbers::has(events, event) == wanted {
+            words::print(b" ");
+            words::print_number(event as u64);
         }
         event += 1;
     }
-    numbers::print(b"\n");
+    words::print(b"\n");
 }
 
-fn print_left(n: usize, events: u64, left: usize) {
+// The events outside the block.
+fn print_left(n: usize, events: u64, left: usize)
+    requires { ⌜ n ≤ 64 ⌝ }
+{
     if left == 0 {
-        numbers::print(b"may be paired with no event\n");
+        words::print(b"may be paired with no event,\n");
         return;
     }
-    numbers::print(b"may be paired only with ");
-    let mut words = [0u8; 64];
-    let used = numbers::put_counted(&mut words, 0, left, b"event");
-    numbers::print(&words[..used]);
+    words::print(b"may be paired only with ");
+    words::print_counted(left, b"event");
     print_events(n, events, false);
-}
-
-fn put_window(out: &mut [u8], window: u32) -> usize {
-    let after_words = text::put(out, 0, b"differ in area or lie more than ");
-    let after_window = text::put_decimal(out, after_words, window as u64);
-    text::put(out, after_window, b" ms apart.\n")
-}
-
-fn print_window(window: u32) {
-    let mut line = [0u8; 64];
-    let used = put_window(&mut line, window);
-    numbers::print(&line[..used]);
 }
 
 fn print_end(rows: usize, left: usize) {
     if left == 0 {
-        numbers::print(b"So no pairing exists.\n");
+        words::print(b"So no pairing exists.\n");
         return;
     }
-    let mut words = [0u8; 128];
-    let after_rows = numbers::put_counted(&mut words, 0, rows, b"fragment");
-    let after_share = text::put(&mut words, after_rows, b" cannot share ");
-    let after_left = numbers::put_counted(&mut words, after_share, left, b"event");
-    let used = text::put(&mut words, after_left, b", so no pairing exists.\n");
-    numbers::print(&words[..used]);
+    words::print_counted(rows, b"fragment");
+    words::print(b" cannot share ");
+    words::print_counted(left, b"event");
+    words::print(b", so no pairing exists.\n");
 }
 
-pub(crate) fn print_block(file: &[u8], pairs: Pairs) {
+pub(crate) fn print_block(file: &[u8], pairs: Pairs)
+    requires { ⌜ pairs .n ≤ 64 ⌝ }
+{
     let n = pairs.n;
+    let rows = pairs.block_rows;
     let events = pairs.block_columns;
-    let row_count = numbers::count(n, pairs.block_rows);
+    let row_count = numbers::count(n, rows);
     let event_count = numbers::count(n, events);
     let left = n - event_count;
-    numbers::print(b"NO PAIRING\n\n");
+    words::print(b"NO PAIRING\n");
     print_these(row_count, b"This ", b"These ", b"fragment");
-    numbers::print(b":\n");
-    print_rows(file, n, pairs.block_rows);
+    words::print(b":\n");
+    print_rows(file, n, rows);
     print_left(n, events, left);
-    if row_count == 1 {
-        numbers::print(b"since it and ");
-    } else {
-        numbers::print(b"since each of them and ");
-    }
-    print_these(event_count, b"this ", b"each of these ", b"event");
+    print_these(
+        row_count,
+        b"since this ",
+        b"since each of these ",
+        b"fragment",
+    );
+    print_these(event_count, b" and this ", b" and each of these ", b"event");
     print_events(n, events, true);
-    print_window(pairs.window);
+    words::print(b"differ in area or lie more than ");
+    words::print_number(pairs.window as u64);
+    words::print(b" ms apart.\n");
     print_end(row_count, left);
 }

@@ -2,20 +2,19 @@
 mod block;
 mod list;
 mod numbers;
+mod row;
+mod words;
 
 use libc::STDIN_FILENO;
-use libc::STDOUT_FILENO;
 
 fn print_refusal(number: u32, place: usize) {
     let mut line = [0u8; 64];
     let used = text::put_refusal(&mut line, 0, number, place);
-    io::write_all(STDOUT_FILENO, &line[..used]);
+    words::print(&line[..used]);
 }
 
-// An accepted file has at most 1,032 bytes.
-fn main() {
-    let mut file = [0u8; 4096];
-    let count = io::read_full(STDIN_FILENO, &mut file);
+// The price list, the block, or the refusal.
+fn print_case(file: &[u8]) {
     let mut costs = [0i32; 4096];
     let mut mask = [0u8; 4096];
     let mut working = [0i64; 4096];
@@ -24,7 +23,7 @@ fn main() {
     let mut row_prices = [0i64; 64];
     let mut column_prices = [0i64; 64];
     let pairs = storm_case::pair_case(
-        &file[..count],
+        file,
         &mut costs,
         &mut mask,
         &mut working,
@@ -33,10 +32,9 @@ fn main() {
         &mut row_prices,
         &mut column_prices,
     );
-    let number = pairs.number;
-    if number == 0 {
+    if pairs.number == 0 {
         list::print_list(
-            &file[..count],
+            file,
             pairs,
             &costs,
             &mask,
@@ -47,9 +45,16 @@ fn main() {
         );
         return;
     }
-    if number == 6 {
-        block::print_block(&file[..count], pairs);
+    if pairs.number == 6 {
+        block::print_block(file, pairs);
         return;
     }
-    print_refusal(number, pairs.place);
+    print_refusal(pairs.number, pairs.place);
+}
+
+// An accepted file has at most 1,032 bytes.
+fn main() {
+    let mut file = [0u8; 4096];
+    let count = io::read_full(STDIN_FILENO, &mut file);
+    print_case(&file[..count]);
 }

@@ -1,21 +1,18 @@
-// Numbers for the lists: the hut of a row, sums, and counted things in words.
-use libc::STDOUT_FILENO;
-use storm_case::Hut;
-
-// The hut of a row; 0 where there is none, which is not so in an accepted file.
-pub(crate) fn hut_of(file: &[u8], row: usize) -> u16 {
-    match storm_case::hut_of(file, row) {
-        Hut::At(hut) => hut,
-        Hut::Absent => 0,
-    }
-}
+// Sums of prices, and sets of lines.
+ghost use mathlib.Core.Path.{_≡_};
+ghost use Prim.Native.Nat.{_≤_, _<_};
+ghost use Rattle.lines.specs.Count.{count as Count·count};
+ghost use Rattle.lines.specs.Sets.{has as Sets·has};
+ghost use Rattle.price_list.specs.Listed.{Sum, SumOf};
 
 const MOST: i64 = 9_223_372_036_854_775_807;
 
 const LEAST: i64 = -9_223_372_036_854_775_808;
 
 // The sum, where 64 bits hold it, as they hold every sum of these lists.
-pub(crate) fn plus(a: i64, b: i64) -> i64 {
+pub(crate) fn plus(a: i64, b: i64) -> i64
+    ensures { λ r. ⌜ Sum a b r ⌝ }
+{
     if b < 0 {
         if a < LEAST - b {
             return LEAST;
@@ -29,7 +26,10 @@ pub(crate) fn plus(a: i64, b: i64) -> i64 {
 }
 
 // The sum of the first n values.
-pub(crate) fn sum(n: usize, values: &[i64; 64]) -> i64 {
+pub(crate) fn sum(n: usize, values: &[i64; 64]) -> i64
+    requires { ⌜ n ≤ 64 ⌝ }
+    ensures { λ r. ⌜ SumOf n (now (values .entry)) r ⌝ }
+{
     let mut total = 0;
     let mut i = 0;
     while i < n {
@@ -39,8 +39,18 @@ pub(crate) fn sum(n: usize, values: &[i64; 64]) -> i64 {
     total
 }
 
-// How many lines below n a set has.
-pub(crate) fn count(n: usize, set: u64) -> usize {
+pub(crate) fn has(set: u64, line: usize) -> bool
+    requires { ⌜ line < 64 ⌝ }
+    ensures { λ r. ⌜ r ≡ Sets·has set line ⌝ }
+{
+    (set >> line) & 1 == 1
+}
+
+// How many of the first n lines the set has.
+pub(crate) fn count(n: usize, set: u64) -> usize
+    requires { ⌜ n ≤ 64 ⌝ }
+    ensures { λ r. ⌜ r ≡ Count·count (Sets·has set) n ⌝ }
+{
     let mut counted = 0;
     let mut line = 0;
     while line < n {
@@ -50,23 +60,4 @@ pub(crate) fn count(n: usize, set: u64) -> usize {
         line += 1;
     }
     counted
-}
-
-pub(crate) fn has(set: u64, line: usize) -> bool {
-    (set >> line) & 1 == 1
-}
-
-// As `1 event` and `2 events`.
-pub(crate) fn put_counted(out: &mut [u8], used: usize, count: usize, thing: &[u8]) -> usize {
-    let after_count = text::put_decimal(out, used, count as u64);
-    let after_blank = text::put(out, after_count, b" ");
-    let after_thing = text::put(out, after_blank, thing);
-    if count == 1 {
-        return after_thing;
-    }
-    text::put(out, after_thing, b"s")
-}
-
-pub(crate) fn print(words: &[u8]) {
-    io::write_all(STDOUT_FILENO, words);
 }

@@ -127,6 +127,13 @@ module _ {before : List ℕ} {used : ℕ} {text : List ℕ} {r : ℕ} {out : Lis
   unfolding put front
   holds-inside = rw (ap (λ p. p .0) (h .held), length-take (length before) (take used before ++ text)) (omega arith)
 
+  -- so the used part can be lent
+  pub holds-fits : r ≤ length out
+  holds-fits = omega (arith, holds-long, holds-inside)
+
+  pub holds-prefix : r ≡ length (take r out)
+  holds-prefix = sym (length-take-le r out holds-fits)
+
 -- a text that fits is there, whole
 pub holds-whole : {before text : List ℕ} {r : ℕ} {out : List ℕ} → Holds before 0 text r out → length text ≤ length before → take r out ≡ text
 unfolding put

@@ -1,6 +1,6 @@
 -- What is printed, computed: document 01's whole example, the fixed line, and the refusal of an empty file.
 use mathlib.Core.Path.{_≡_, refl}
-use mathlib.Core.List.{List, [], _∷_}
+use mathlib.Core.List.{[], _∷_}
 use Prim.Native.Nat.{ℕ}
 use lib.IntN.{ℤ, pos}
 use Rattle.storm_case.specs.declared.pair.Pairs.{Pairs}

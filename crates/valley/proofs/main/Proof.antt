@@ -1,6 +1,6 @@
 -- `main` meets its contract: what is written lies in the buffer.
 use borrow.Author.Needs.{needs}
-use Rattle.valley.proofs.ReportLaws.{printed-inside, printed-length}
+use Rattle.text.proofs.PutLaws.{holds-fits, holds-prefix}
 use Rattle.valley.proofs.main.Statement.{statement}
 use Rattle.valley.proofs.main.Tie as tie
 
@@ -23,10 +23,10 @@ report-requires : tie.Need-report-requires
 report-requires c κs = search needs
 
 array-share-prefix-out : tie.Need-array-share-prefix-out
-array-share-prefix-out c = printed-inside (c .before .report .ensures)
+array-share-prefix-out c = holds-fits (record { held = c .before .report .ensures .printed })
 
 slice-aggregate-write-all : tie.Need-slice-aggregate-write-all
-slice-aggregate-write-all c = printed-length (c .before .before .report .ensures)
+slice-aggregate-write-all c = holds-prefix (record { held = c .before .before .report .ensures .printed })
 
 write-all-requires : tie.Need-write-all-requires
 write-all-requires c κs = search needs

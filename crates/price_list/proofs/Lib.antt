@@ -1,0 +1,3 @@
+pub mod SumLaws
+pub mod PlaceLaws
+pub mod PromiseLaws
