@@ -9,6 +9,7 @@ pub mod Sumsℤ
 pub mod Squares
 pub mod Sets
 pub mod Bits
+pub mod Walks
 pub mod Words
 pub mod Loops
 pub mod Rows
