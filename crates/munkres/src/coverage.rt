@@ -1,6 +1,7 @@
 // Covered lines: a set of rows or of columns is one 64-bit word, bit i for line i; and the searches for uncovered zeros, along a row for step 2, column by column for step 4.
 ghost use mathlib.Core.Path.{_≡_};
 ghost use mathlib.Core.Bool.{not, _&&_};
+ghost use mathlib.Core.Logic.{_≢_};
 ghost use Prim.Native.Nat.{_<_, _≤_};
 ghost use Rattle.lines.specs.First.{first};
 ghost use Rattle.lines.specs.Sets.{has, with, without, all as all-below, rest};
@@ -53,6 +54,23 @@ pub(crate) fn uncovered_lines(n: usize, lines: u64) -> u64
     !lines & all_lines(n)
 }
 
+// The searches of steps 4 and 6 walk over the uncovered lines by the next two functions: a test of every line is a branch seldom foretold.
+
+// The lowest line of a set; 64 if it is empty.
+pub(crate) fn lowest_line(lines: u64) -> usize
+    ensures { λ r. ⌜ r ≡ first (has lines) 64 ⌝ }
+{
+    u64::trailing_zeros(lines) as usize
+}
+
+// A set without its lowest line.
+pub(crate) fn without_lowest(lines: u64) -> u64
+    requires { ⌜ lines ≢ 0 ⌝ }
+    ensures { λ r. ⌜ r ≡ without lines (first (has lines) 64) ⌝ }
+{
+    lines & (lines - 1)
+}
+
 // The row's first zero in a column that is not taken, or n.
 pub(crate) fn find_zero_in_row(
     n: usize,
@@ -82,14 +100,13 @@ fn find_zero_in_column(n: usize, mask: &[u8], working: &[i64], rows: u64, column
     requires { ⌜ Square n (now mask) × Square n (now working) × (column < n) ⌝ }
     ensures { λ r. ⌜ r ≡ first (λ i. not (has rows i) && zero-at n (allows n (now (mask .entry))) (now (working .entry)) i column) n ⌝ }
 {
-    let mut row = 0;
-    while row < n {
-        if !is_covered(rows, row) {
-            if weight_matrix::is_element_zero(mask, working, row * n + column) {
-                return row;
-            }
+    let mut left = uncovered_lines(n, rows);
+    while left != 0 {
+        let row = lowest_line(left);
+        if weight_matrix::is_element_zero(mask, working, row * n + column) {
+            return row;
         }
-        row += 1;
+        left = without_lowest(left);
     }
     n
 }
@@ -102,18 +119,17 @@ pub(crate) fn find_uncovered_cell_column_row_order(
     rows: u64,
     columns: u64,
 ) -> Cell
-    requires { ⌜ Square n (now mask) × Square n (now working) ⌝ }
+    requires { ⌜ Square n (now mask) × Square n (now working) × (1 ≤ n) ⌝ }
     ensures { λ r. ⌜ r ≡ found-zero n (allows n (now (mask .entry))) (now (working .entry)) rows columns ⌝ }
 {
-    let mut column = 0;
-    while column < n {
-        if !is_covered(columns, column) {
-            let row = find_zero_in_column(n, mask, working, rows, column);
-            if row < n {
-                return Cell::At(row, column);
-            }
+    let mut left = uncovered_lines(n, columns);
+    while left != 0 {
+        let column = lowest_line(left);
+        let row = find_zero_in_column(n, mask, working, rows, column);
+        if row < n {
+            return Cell::At(row, column);
         }
-        column += 1;
+        left = without_lowest(left);
     }
     Cell::Nothing
 }

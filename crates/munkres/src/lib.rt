@@ -130,7 +130,7 @@ fn step_3(n: usize, run: Run, marks: &[u8]) -> Run
 
 // The first uncovered zero is primed. Where its row has a star, the row is covered and the star's column uncovered.
 fn step_4(n: usize, mask: &[u8], run: Run, working: &[i64], marks: &mut [u8]) -> Run
-    requires { ⌜ Square n (now mask) × Square n (now working) × Square n (now marks) × (run .primes + 1 < 2 ^ 32) ⌝ }
+    requires { ⌜ Square n (now mask) × Square n (now working) × Square n (now marks) × (run .primes + 1 < 2 ^ 32) × (1 ≤ n) ⌝ }
     ensures { λ r. ⌜ (view r, now (marks .exit)) ≡ step4 n (allows n (now (mask .entry))) (now (working .entry)) (view run) (now (marks .entry)) ⌝ }
 {
     let rows = run.rows;
@@ -201,7 +201,7 @@ fn step_6(
     column_prices: &mut [i64],
 ) -> Run
     requires { ⌜ Square n (now mask) × Square n (now working) × (length (now «row_prices») ≡ n) × (length (now «column_prices») ≡ n) × (run .adjustments ≤ budget)
-        × Adjusts n (allows n (now mask)) budget (view run) (now working) (now «row_prices») (now «column_prices») ⌝ }
+        × Adjusts n (allows n (now mask)) budget (view run) (now working) (now «row_prices») (now «column_prices») × (1 ≤ n) ⌝ }
     ensures { λ r. ⌜ (view r, now (working .exit), now («row_prices» .exit), now («column_prices» .exit))
         ≡ step6 n (allows n (now (mask .entry))) budget (view run) (now (working .entry)) (now («row_prices» .entry)) (now («column_prices» .entry)) ⌝ }
 {

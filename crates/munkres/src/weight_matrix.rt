@@ -131,14 +131,13 @@ fn least_in_row(
 {
     let start = row * n;
     let mut least = so_far;
-    let mut column = 0;
-    while column < n {
-        if !coverage::is_covered(columns, column) {
-            if mask[start + column] == 1 {
-                least = lesser(least, working[start + column]);
-            }
+    let mut left = coverage::uncovered_lines(n, columns);
+    while left != 0 {
+        let column = coverage::lowest_line(left);
+        if mask[start + column] == 1 {
+            least = lesser(least, working[start + column]);
         }
-        column += 1;
+        left = coverage::without_lowest(left);
     }
     least
 }
@@ -151,16 +150,15 @@ pub(crate) fn least_uncovered(
     rows: u64,
     columns: u64,
 ) -> Least
-    requires { ⌜ Square n (now mask) × Square n (now working) ⌝ }
+    requires { ⌜ Square n (now mask) × Square n (now working) × (1 ≤ n) ⌝ }
     ensures { λ r. ⌜ r ≡ least-from Least.Nothing (λ q. uncovered rows columns (q / n) (q % n) && allows n (now (mask .entry)) (q / n) (q % n)) (λ q. getD (now (working .entry)) q (pos 0)) (n * n) ⌝ }
 {
     let mut least = Least::Nothing;
-    let mut row = 0;
-    while row < n {
-        if !coverage::is_covered(rows, row) {
-            least = least_in_row(n, mask, working, columns, row, least);
-        }
-        row += 1;
+    let mut left = coverage::uncovered_lines(n, rows);
+    while left != 0 {
+        let row = coverage::lowest_line(left);
+        least = least_in_row(n, mask, working, columns, row, least);
+        left = coverage::without_lowest(left);
     }
     least
 }

@@ -20,7 +20,7 @@ enum-told-2 c = search needs
 step-4-requires : tie.Need-step-4-requires
 step-4-requires c κs =
     let g = c .before .before .before .before .before .before .pre in
-    (square-mask g, square-working g, square-marks g, at-step4 g (ap view-next (c .before .before .enum-told2 .given .1)))
+    (square-mask g, square-working g, square-marks g, at-step4 g (ap view-next (c .before .before .enum-told2 .given .1)), g .some)
 
 enum-known-next : tie.Need-enum-known-next
 enum-known-next c = search needs
@@ -36,7 +36,8 @@ enum-told-3 c = search needs
 
 step-6-requires : tie.Need-step-6-requires
 step-6-requires c κs = let g = c .before .before .before .before .before .before .before .pre in
-    (square-mask g, square-working g, g .fresh .shape .row-prices, g .fresh .shape .column-prices, g .spare, at-step6 g (ap view-next (c .before .before .before .enum-told3 .given .1)))
+    let e = ap view-next (c .before .before .before .enum-told3 .given .1) in
+    (square-mask g, square-working g, g .fresh .shape .row-prices, g .fresh .shape .column-prices, g .spare, at-step6 g e, g .some)
 
 enum-told-4 : tie.Need-enum-told-4
 enum-told-4 c = search needs
