@@ -23,6 +23,14 @@ pair-line row hut event difference row-price event-price =
 unfoldable pub sums-line : ℤ → ℤ → ℤ → List ℕ
 sums-line total row-prices event-prices = (32 ∷ 32 ∷ 115 ∷ 117 ∷ 109 ∷ []) ++ blanks 14 ++ prices total row-prices event-prices ++ (10 ∷ [])
 
+-- an event and its price
+unfoldable pub price-line : ℕ → ℤ → List ℕ
+price-line event price = right 5 (decimal event) ++ right 16 (signed price) ++ (10 ∷ [])
+
+-- below the events, the sum of their prices
+unfoldable pub price-sum-line : ℤ → List ℕ
+price-sum-line sum = (32 ∷ 32 ∷ 115 ∷ 117 ∷ 109 ∷ []) ++ right 16 (signed sum) ++ (10 ∷ [])
+
 -- an allowed pair: row, event, the prices and the spare
 unfoldable pub allowed-line : ℕ → ℕ → ℤ → ℤ → ℤ → ℤ → List ℕ
 allowed-line row event difference row-price event-price spare =

@@ -72,6 +72,31 @@ fn print_sums(total: i64, row_prices: i64, event_prices: i64) {
     words::print(&line[..used]);
 }
 
+fn print_price(event: usize, price: i64) {
+    let mut line = [0u8; 64];
+    let used = row::put_price(&mut line, event, price);
+    words::print(&line[..used]);
+}
+
+fn print_price_sum(sum: i64) {
+    let mut line = [0u8; 64];
+    let used = row::put_price_sum(&mut line, sum);
+    words::print(&line[..used]);
+}
+
+// The price of every event, in their order.
+fn print_event_prices(n: usize, column_prices: &[i64; 64], sum: i64)
+    requires { ⌜ n ≤ 64 ⌝ }
+{
+    words::print(b"\nevent     event price\n");
+    let mut event = 0;
+    while event < n {
+        print_price(event, column_prices[event]);
+        event += 1;
+    }
+    print_price_sum(sum);
+}
+
 // That no pairing costs less.
 fn print_reason(total: i64, row_prices: i64, event_prices: i64) {
     words::print(b"\nTOTAL ");
@@ -180,6 +205,7 @@ pub(crate) fn print_list(
     print_size(n, pairs.window);
     print_pairs(file, n, costs, columns, row_prices, column_prices);
     print_sums(total, all_rows, all_events);
+    print_event_prices(n, column_prices, all_events);
     print_reason(total, all_rows, all_events);
     print_every_pair(n, costs, mask, working, row_prices, column_prices);
 }

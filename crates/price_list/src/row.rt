@@ -1,8 +1,8 @@
-// Lines about one row, put into a lent buffer.
+// Lines about a row or an event, put into a lent buffer.
 ghost use mathlib.Core.Path.{_≡_};
 ghost use Rattle.storm_case.specs.Case.{hut};
 ghost use Rattle.text.specs.Text.{put};
-ghost use Rattle.price_list.specs.Lines.{prices, pair-line, sums-line, allowed-line, hut-line};
+ghost use Rattle.price_list.specs.Lines.{prices, pair-line, sums-line, price-line, price-sum-line, allowed-line, hut-line};
 ghost use Rattle.price_list.specs.Listed.{hut-number};
 use storm_case::Hut;
 
@@ -58,6 +58,22 @@ pub(crate) fn put_sums(out: &mut [u8], total: i64, row_prices: i64, event_prices
     let after_word = text::put(out, 0, b"  sum              ");
     let after_prices = put_prices(out, after_word, total, row_prices, event_prices);
     text::put(out, after_prices, b"\n")
+}
+
+pub(crate) fn put_price(out: &mut [u8], event: usize, price: i64) -> usize
+    ensures { λ r. ⌜ (r, now (out .exit)) ≡ put (now (out .entry)) 0 (price-line event price) ⌝ }
+{
+    let after_event = text::put_decimal_right(out, 0, 5, event as u64);
+    let after_price = text::put_right(out, after_event, 16, price);
+    text::put(out, after_price, b"\n")
+}
+
+pub(crate) fn put_price_sum(out: &mut [u8], sum: i64) -> usize
+    ensures { λ r. ⌜ (r, now (out .exit)) ≡ put (now (out .entry)) 0 (price-sum-line sum) ⌝ }
+{
+    let after_word = text::put(out, 0, b"  sum");
+    let after_sum = text::put_right(out, after_word, 16, sum);
+    text::put(out, after_sum, b"\n")
 }
 
 // An allowed pair, with what is left of its difference.
