@@ -1,2 +1,4 @@
 pub mod LineLaws
 pub mod Samples
+pub mod Lengths
+pub mod Theorems

@@ -9,7 +9,9 @@ use lib.ListN.{getD}
 use Rattle.storm_case.specs.declared.Hut.{Hut}
 use Rattle.storm_case.specs.declared.pair.Pairs.{Pairs}
 use Rattle.storm_case.specs.Case.{hut}
+use Rattle.text.specs.Text.{put}
 use Rattle.text.specs.Numbers.{refusal}
+use Rattle.text.proofs.PutLaws.{Holds, holds-more}
 use Rattle.valley.specs.Lines.{row-line, row-lines, total-line, no-pairing, lines}
 
 -- one more row's line, at the code's `row + 1`
@@ -23,6 +25,13 @@ module _ (file : List ℕ) (p : Pairs) (columns : List ℕ) where
   pub lines-paired : p .number ≡ 0 → lines file p columns ≡ row-lines file columns (p .n) ++ total-line (p .total)
   unfolding lines
   lines-paired e = rw e
+
+  -- the rows were put, and the total behind them
+  pub paired-put : (out : List ℕ) {r r′ : ℕ} {now now′ : List ℕ} → p .number ≡ 0 → (r, now) ≡ put out 0 (row-lines file columns (p .n))
+      → (r′, now′) ≡ put now r (total-line (p .total)) → (r′, now′) ≡ put out 0 (lines file p columns)
+  paired-put out {r} {r′} {now} {now′} e rows total =
+      let first : Holds out 0 (row-lines file columns (p .n)) r now = record { held = rows } in
+      rw (lines-paired e) (holds-more first (total-line (p .total)) total .held)
 
   pub lines-none : p .number ≡ 6 → lines file p columns ≡ no-pairing
   unfolding lines

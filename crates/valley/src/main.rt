@@ -5,7 +5,7 @@ mod report;
 use libc::STDIN_FILENO;
 use libc::STDOUT_FILENO;
 
-// An accepted file has at most 1,032 bytes, and what is printed of it at most 1,024.
+// An accepted file has at most 1,032 bytes, and what is printed of a file at most 594.
 fn main() {
     let mut file = [0u8; 4096];
     let count = io::read_full(STDIN_FILENO, &mut file);

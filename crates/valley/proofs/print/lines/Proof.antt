@@ -2,8 +2,7 @@
 use borrow.Author.Needs.{needs}
 use mir.Syntax.{w64}
 use mir.Facts.{toZ-ofZ}
-use Rattle.text.proofs.PutLaws.{Holds, holds-more}
-use Rattle.valley.proofs.LineLaws.{lines-paired, lines-none, lines-refused}
+use Rattle.valley.proofs.LineLaws.{paired-put, lines-none, lines-refused}
 use Rattle.valley.proofs.print.lines.Statement.{statement}
 use Rattle.valley.proofs.print.lines.Tie as tie
 
@@ -18,11 +17,9 @@ same-length c = search needs
 
 returns : tie.Need-returns
 returns c =
-    let rows : Holds _ _ _ _ _ = record { held = c .before .before .before .before .before .before .before .put-rows .ensures } in
     let pairs = c .before .before .before .before .before .before .before .before .before .before .before .before .before .before .args .pairs in
     let same = toZ-ofZ {w = w64} {z = pairs .total} (record { sfits = c .before .before .before .struct-told .given .1 .1 .1 .1 .0 .1 }) in
-    rw (lines-paired _ pairs _ (c .before .before .before .before .before .before .before .before .before .if1 .taken))
-    (rw same at (holds-more rows _ (c .before .before .put-total .ensures) .held))
+    paired-put _ pairs _ _ (c .before .before .before .before .before .before .before .before .before .if1 .taken) (c .before .before .before .before .before .before .before .put-rows .ensures) (rw same at (c .before .before .put-total .ensures))
 
 slice-aggregate-put : tie.Need-slice-aggregate-put
 slice-aggregate-put c = search needs
