@@ -1,4 +1,5 @@
 -- The places of cells and prices lie in their buffers; a cost as a 64-bit number.
+use mathlib.Core.Path.{_≡_}
 use mathlib.Core.List.{List}
 use Prim.Native.Nat.{ℕ, _+_, _*_, _≤_, _<_, _^_}
 use native.Mathlib.Omega.{arith}
@@ -27,3 +28,10 @@ pair-place {n} {columns} p row h = place-fits n row (getD columns row 0) (p .sma
 -- an `i32` as an `i64`: what the cast asks
 pub wide-fits : (z : ℤ) → mag z < 2 ^ 31 → SFits w64 (toZ w32 (ofZ w32 z))
 wide-fits z h = rw (toZ-ofZ {w = w32} {z = z} (record { sfits = h })) (record { sfits = omega arith })
+
+-- and what comes of it, of the cost and of a price
+pub back : (z : ℤ) → mag z < 2 ^ 63 → toZ w64 (ofZ w64 z) ≡ z
+back z h = toZ-ofZ (record { sfits = h })
+
+pub wide-back : (z : ℤ) → mag z < 2 ^ 31 → toZ w64 (ofZ w64 (toZ w32 (ofZ w32 z))) ≡ z
+wide-back z h = rw (toZ-ofZ {w = w32} {z = z} (record { sfits = h })) (back z (omega arith))

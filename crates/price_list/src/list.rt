@@ -1,6 +1,9 @@
 // The price list of a pairing: each pair with its prices, their sums, and every allowed pair, so that each line adds up by hand.
+ghost use mathlib.Core.Path.{_≡_};
 ghost use Prim.Native.Nat.{_≤_, _<_};
+ghost use Rattle.text.specs.Text.{put};
 ghost use Rattle.price_list.specs.Listed.{Listed};
+ghost use Rattle.price_list.specs.Lines.{pair-of, allowed-of};
 use crate::numbers;
 use crate::row;
 use crate::words;
@@ -16,25 +19,34 @@ fn print_size(n: usize, window: u32) {
     words::print(b" ms apart; differences and prices in ms\n\n");
 }
 
-fn print_pair(
+// The line of a row of the pairing.
+fn put_pair_of(
+    file: &[u8],
+    n: usize,
+    costs: &[i32; 4096],
+    columns: &[u16; 64],
+    row_prices: &[i64; 64],
+    column_prices: &[i64; 64],
     row: usize,
-    hut: u16,
-    event: usize,
-    difference: i64,
-    row_price: i64,
-    event_price: i64,
-) {
-    let mut line = [0u8; 128];
-    let used = row::put_pair(
-        &mut line,
+    out: &mut [u8],
+) -> usize
+    requires { ⌜ Listed n (now columns) × (row < n) ⌝ }
+    ensures { λ r. ⌜ (r, now (out .exit)) ≡ put (now (out .entry)) 0 (pair-of (now (file .entry)) n (now (costs .entry)) (now (columns .entry))
+        (now («row_prices» .entry)) (now («column_prices» .entry)) row) ⌝ }
+{
+    let event = columns[row] as usize;
+    let place = row * n + event;
+    let difference = costs[place] as i64;
+    let hut = row::hut_of(file, row);
+    row::put_pair(
+        out,
         row,
         hut,
         event,
         difference,
-        row_price,
-        event_price,
-    );
-    words::print(&line[..used]);
+        row_prices[row],
+        column_prices[event],
+    )
 }
 
 fn print_pairs(
@@ -48,20 +60,20 @@ fn print_pairs(
     requires { ⌜ Listed n (now columns) ⌝ }
 {
     words::print(b"  row    hut  event   difference =     row price +   event price\n");
+    let mut line = [0u8; 128];
     let mut row = 0;
     while row < n {
-        let event = columns[row] as usize;
-        let place = row * n + event;
-        let difference = costs[place] as i64;
-        let hut = row::hut_of(file, row);
-        print_pair(
+        let used = put_pair_of(
+            file,
+            n,
+            costs,
+            columns,
+            row_prices,
+            column_prices,
             row,
-            hut,
-            event,
-            difference,
-            row_prices[row],
-            column_prices[event],
+            &mut line,
         );
+        words::print(&line[..used]);
         row += 1;
     }
 }
@@ -115,25 +127,32 @@ fn print_reason(total: i64, row_prices: i64, event_prices: i64) {
     words::print(b". The pairing above costs exactly that.\n\n");
 }
 
-fn print_allowed(
+// The line of a row and an event that may be paired.
+fn put_allowed_of(
+    n: usize,
+    costs: &[i32; 4096],
+    working: &[i64; 4096],
+    row_prices: &[i64; 64],
+    column_prices: &[i64; 64],
     row: usize,
     event: usize,
-    difference: i64,
-    row_price: i64,
-    event_price: i64,
-    spare: i64,
-) {
-    let mut line = [0u8; 128];
-    let used = row::put_allowed(
-        &mut line,
+    out: &mut [u8],
+) -> usize
+    requires { ⌜ (n ≤ 64) × (row < n) × (event < n) ⌝ }
+    ensures { λ r. ⌜ (r, now (out .exit)) ≡ put (now (out .entry)) 0 (allowed-of n (now (costs .entry)) (now (working .entry))
+        (now («row_prices» .entry)) (now («column_prices» .entry)) row event) ⌝ }
+{
+    let place = row * n + event;
+    let difference = costs[place] as i64;
+    row::put_allowed(
+        out,
         row,
         event,
         difference,
-        row_price,
-        event_price,
-        spare,
-    );
-    words::print(&line[..used]);
+        row_prices[row],
+        column_prices[event],
+        working[place],
+    )
 }
 
 // The allowed pairs of a row.
@@ -149,20 +168,21 @@ fn print_row(
     requires { ⌜ (n ≤ 64) × (row < n) ⌝ }
 {
     let start = row * n;
-    let row_price = row_prices[row];
+    let mut line = [0u8; 128];
     let mut event = 0;
     while event < n {
-        let place = start + event;
-        if mask[place] == 1 {
-            let difference = costs[place] as i64;
-            print_allowed(
+        if mask[start + event] == 1 {
+            let used = put_allowed_of(
+                n,
+                costs,
+                working,
+                row_prices,
+                column_prices,
                 row,
                 event,
-                difference,
-                row_price,
-                column_prices[event],
-                working[place],
+                &mut line,
             );
+            words::print(&line[..used]);
         }
         event += 1;
     }

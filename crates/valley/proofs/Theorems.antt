@@ -26,7 +26,7 @@ pub only-report : {file out : List ℕ} {r r′ : ℕ} {after after′ : List �
 only-report {file} {out} x y =
     let same = only-pairs (λ t before a a′ b b′ p q. only-answer p q) file fresh (x .promise) (y .promise) in
     let text : lines file (x .pairs) (x .filled .rest .columns) ≡ lines file (y .pairs) (y .filled .rest .columns) =
-        ap (λ p. lines file p (x .filled .rest .columns)) (same .0) ∙ ap (λ (f : Room). lines file (y .pairs) (f .rest .columns)) (same .1) in
+    ap (λ p. lines file p (x .filled .rest .columns)) (same .0) ∙ ap (λ (f : Room). lines file (y .pairs) (f .rest .columns)) (same .1) in
     let whole = x .printed ∙ ap (put out 0) text ∙ sym (y .printed) in
     (ap (λ p. p .0) whole, ap (λ p. p .1) whole)
 
@@ -63,9 +63,13 @@ module _ (file : List ℕ) (bytes : Bytes file) {p : Pairs} {filled : Room} wher
       (λ zero-number.
       let pairing = x .about .pairing zero-number in
       let below : (i : ℕ) → i < s .n → getD (filled .rest .columns) i 0 < 64 =
-          λ i h. rw (← (getD-take (s .n) (filled .rest .columns) i 0 h)) (omega (arith, pairing .pairing .below i h, f .small)) in
-      rw (lines-paired file p (filled .rest .columns) zero-number, size, x .about .totalled zero-number,
-          length-append (row-lines file (filled .rest .columns) (s .n)) _)
+      λ i h. rw (← (getD-take (s .n) (filled .rest .columns) i 0 h)) (omega (arith, pairing .pairing .below i h, f .small)) in
+      rw (
+        lines-paired file p (filled .rest .columns) zero-number,
+        size,
+        x .about .totalled zero-number,
+        length-append (row-lines file (filled .rest .columns) (s .n)) _,
+      )
       (omega (arith, f .small, short-rows file (filled .rest .columns) bytes (s .n) below, short-total-line file s _ (f .small) (f .low) pairing)))
       (λ six. rw (lines-none file p (filled .rest .columns) six) (omega arith))
 

@@ -1,58 +1,47 @@
--- `print_row` meets its contract: it ends after n turns, and every index lies in its buffer.
+-- `print_row` meets its contract: it ends after n turns, and what is printed lies in the buffer.
+use mathlib.Core.Path.{_≡_, _∙_}
 use Prim.Native.Nat.{_-_, _≤_}
 use native.Mathlib.Omega.{arith}
 use borrow.Author.Needs.{needs}
-use Rattle.price_list.proofs.PlaceLaws.{place-fits, wide-fits}
+use lib.ListN.{length}
+use Rattle.price_list.proofs.PlaceLaws.{place-fits}
+use Rattle.lines.proofs.Tests.{cases}
+use Rattle.text.proofs.PutLaws.{holds-fits, holds-prefix}
 use Rattle.price_list.proofs.list.print_row.Statement.{statement}
 use Rattle.price_list.proofs.list.print_row.Tie as tie
 
 abbrev Inv-loop : tie.InvT-loop
-Inv-loop n row costs mask working row-prices column-prices start row-price event₀ event = event ≤ n
+Inv-loop n row costs mask working row-prices column-prices start line₀ event₀ line event = (event ≤ n) × (length line ≡ 128)
 
 abbrev μ-loop : tie.MeasureT-loop
-μ-loop n row costs mask working row-prices column-prices start row-price event₀ event = n - event
+μ-loop n row costs mask working row-prices column-prices start line₀ event₀ line event = n - event
 
 mul-start : tie.Need-mul-start Inv-loop μ-loop
 mul-start c = omega (arith, place-fits (c .args .n) (c .args .row) 0 (omega arith) (omega arith) (omega arith))
 
-mul-row-price : tie.Need-mul-row-price Inv-loop μ-loop
-mul-row-price c = search needs
-
-element-copy-out-row-price : tie.Need-element-copy-out-row-price Inv-loop μ-loop
-element-copy-out-row-price c = search needs
-
 loop-holds : tie.Need-loop-holds Inv-loop μ-loop
 loop-holds c = search needs
 
-add-place : tie.Need-add-place Inv-loop μ-loop
-add-place c = let s = c .before .before .before in omega (arith, place-fits (s .args .n) (s .args .row) (c .before .loop .event) (omega arith) (omega arith) (omega arith))
+add-if1 : tie.Need-add-if1 Inv-loop μ-loop
+add-if1 c = let s = c .before .before in omega (arith, place-fits (s .args .n) (s .args .row) (c .before .loop .event) (omega arith) (omega arith) (omega arith))
 
 element-copy-out-if1 : tie.Need-element-copy-out-if1 Inv-loop μ-loop
-element-copy-out-if1 c = let s = c .before .before .before in omega (arith, place-fits (s .args .n) (s .args .row) (c .before .loop .event) (omega arith) (omega arith) (omega arith))
+element-copy-out-if1 c = let s = c .before .before in omega (arith, place-fits (s .args .n) (s .args .row) (c .before .loop .event) (omega arith) (omega arith) (omega arith))
 
-mul-difference : tie.Need-mul-difference Inv-loop μ-loop
-mul-difference c = let s = c .before .before .before .before .before in omega (arith, place-fits (s .args .n) (s .args .row) (c .before .before .before .loop .event) (omega arith) (omega arith) (omega arith))
+slice-aggregate-put-allowed-of : tie.Need-slice-aggregate-put-allowed-of Inv-loop μ-loop
+slice-aggregate-put-allowed-of c = search needs
 
-element-copy-out-difference : tie.Need-element-copy-out-difference Inv-loop μ-loop
-element-copy-out-difference c = let s = c .before .before .before .before .before in omega (arith, place-fits (s .args .n) (s .args .row) (c .before .before .before .loop .event) (omega arith) (omega arith) (omega arith))
+put-allowed-of-requires : tie.Need-put-allowed-of-requires Inv-loop μ-loop
+put-allowed-of-requires c κs = search needs
 
-cast-difference : tie.Need-cast-difference Inv-loop μ-loop
-cast-difference c = search (wide-fits, needs)
+array-share-prefix-line : tie.Need-array-share-prefix-line Inv-loop μ-loop
+array-share-prefix-line c = holds-fits (record { held = c .before .put-allowed-of .ensures })
 
-mul-print-allowed : tie.Need-mul-print-allowed Inv-loop μ-loop
-mul-print-allowed c = search needs
+slice-aggregate-print : tie.Need-slice-aggregate-print Inv-loop μ-loop
+slice-aggregate-print c = holds-prefix (record { held = c .before .before .put-allowed-of .ensures })
 
-element-copy-out-print-allowed : tie.Need-element-copy-out-print-allowed Inv-loop μ-loop
-element-copy-out-print-allowed c = search needs
-
-mul-print-allowed-2 : tie.Need-mul-print-allowed-2 Inv-loop μ-loop
-mul-print-allowed-2 c = let s = c .before .before .before .before .before .before .before in omega (arith, place-fits (s .args .n) (s .args .row) (c .before .before .before .before .before .loop .event) (omega arith) (omega arith) (omega arith))
-
-element-copy-out-print-allowed-2 : tie.Need-element-copy-out-print-allowed-2 Inv-loop μ-loop
-element-copy-out-print-allowed-2 c = let s = c .before .before .before .before .before .before .before in omega (arith, place-fits (s .args .n) (s .args .row) (c .before .before .before .before .before .loop .event) (omega arith) (omega arith) (omega arith))
-
-print-allowed-requires : tie.Need-print-allowed-requires Inv-loop μ-loop
-print-allowed-requires c κs = search needs
+print-requires : tie.Need-print-requires Inv-loop μ-loop
+print-requires c κs = search needs
 
 add-event : tie.Need-add-event Inv-loop μ-loop
 add-event c = search needs
@@ -61,7 +50,9 @@ loop-less : tie.Need-loop-less Inv-loop μ-loop
 loop-less c = search needs
 
 loop-again : tie.Need-loop-again Inv-loop μ-loop
-loop-again c = search needs
+loop-again c =
+    let long = c .before .before .before .loop .inv .1 in
+    (omega arith, cases (c .if1 .came) (λ w. rw (w .6) (w .2 .kept .1 .1 .1 .1 .1 .1 .1 .0 ∙ long)) (λ w. rw (w .1) long))
 
 returns : tie.Need-returns Inv-loop μ-loop
 returns c = search needs
@@ -73,19 +64,14 @@ print-row-spec =
     Inv-loop
     μ-loop
     mul-start
-    mul-row-price
-    element-copy-out-row-price
     loop-holds
-    add-place
+    add-if1
     element-copy-out-if1
-    mul-difference
-    element-copy-out-difference
-    cast-difference
-    mul-print-allowed
-    element-copy-out-print-allowed
-    mul-print-allowed-2
-    element-copy-out-print-allowed-2
-    print-allowed-requires
+    slice-aggregate-put-allowed-of
+    put-allowed-of-requires
+    array-share-prefix-line
+    slice-aggregate-print
+    print-requires
     add-event
     loop-less
     loop-again

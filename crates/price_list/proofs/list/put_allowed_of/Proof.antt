@@ -1,0 +1,80 @@
+-- `put_allowed_of` meets its contract: every index lies in its buffer, and the numbers are those of the buffers.
+use Prim.Native.Nat.{_+_, _*_}
+use native.Mathlib.Omega.{arith}
+use borrow.Author.Needs.{needs}
+use lib.IntN.{pos}
+use lib.ListN.{getD}
+use Rattle.price_list.specs.Lines.{allowed-of}
+use Rattle.price_list.proofs.PlaceLaws.{place-fits, wide-fits, wide-back, back}
+use Rattle.price_list.proofs.list.put_allowed_of.Statement.{statement}
+use Rattle.price_list.proofs.list.put_allowed_of.Tie as tie
+
+mul-place : tie.Need-mul-place
+mul-place c = let s = c .before in omega (arith, place-fits (s .args .n) (s .args .row) (s .args .event) (s .pre .0) (s .pre .1) (s .pre .2))
+
+add-place : tie.Need-add-place
+add-place c = let s = c .before in omega (arith, place-fits (s .args .n) (s .args .row) (s .args .event) (s .pre .0) (s .pre .1) (s .pre .2))
+
+mul-difference : tie.Need-mul-difference
+mul-difference c = let s = c .before in omega (arith, place-fits (s .args .n) (s .args .row) (s .args .event) (s .pre .0) (s .pre .1) (s .pre .2))
+
+element-copy-out-difference : tie.Need-element-copy-out-difference
+element-copy-out-difference c = let s = c .before in omega (arith, place-fits (s .args .n) (s .args .row) (s .args .event) (s .pre .0) (s .pre .1) (s .pre .2))
+
+cast-difference : tie.Need-cast-difference
+cast-difference c = search (wide-fits, needs)
+
+mul-put-allowed : tie.Need-mul-put-allowed
+mul-put-allowed c = search needs
+
+element-copy-out-put-allowed : tie.Need-element-copy-out-put-allowed
+element-copy-out-put-allowed c = search needs
+
+mul-put-allowed-2 : tie.Need-mul-put-allowed-2
+mul-put-allowed-2 c = search needs
+
+element-copy-out-put-allowed-2 : tie.Need-element-copy-out-put-allowed-2
+element-copy-out-put-allowed-2 c = search needs
+
+mul-put-allowed-3 : tie.Need-mul-put-allowed-3
+mul-put-allowed-3 c = let s = c .before .before .before .before .before in omega (arith, place-fits (s .args .n) (s .args .row) (s .args .event) (s .pre .0) (s .pre .1) (s .pre .2))
+
+element-copy-out-put-allowed-3 : tie.Need-element-copy-out-put-allowed-3
+element-copy-out-put-allowed-3 c = let s = c .before .before .before .before .before in omega (arith, place-fits (s .args .n) (s .args .row) (s .args .event) (s .pre .0) (s .pre .1) (s .pre .2))
+
+put-allowed-requires : tie.Need-put-allowed-requires
+put-allowed-requires c κs = search needs
+
+same-length : tie.Need-same-length
+same-length c = search needs
+
+returns : tie.Need-returns
+unfolding allowed-of
+returns c = 
+    let cell = c .before .before .before .before .before .before .before in
+    let a = cell .before .before .args in
+    let place = a .row * a .n + a .event in
+    let cost = wide-back (getD (a .costs .now) place (pos 0)) (cell .difference .given) in
+    let row-price = back (getD (a .row-prices .now) (a .row) (pos 0)) (c .before .before .before .before .before .put-allowed-arg2 .given) in
+    let event-price = back (getD (a .column-prices .now) (a .event) (pos 0)) (c .before .before .before .before .put-allowed-arg3 .given) in
+    let spare = back (getD (a .working .now) place (pos 0)) (c .before .before .before .put-allowed-arg4 .given) in
+    rw (cost, row-price, event-price, spare) at (c .before .before .put-allowed .ensures)
+
+pub put-allowed-of-spec : {M : Type 1} → statement M
+put-allowed-of-spec =
+    tie.close
+    (tie.spec
+    mul-place
+    add-place
+    mul-difference
+    element-copy-out-difference
+    cast-difference
+    mul-put-allowed
+    element-copy-out-put-allowed
+    mul-put-allowed-2
+    element-copy-out-put-allowed-2
+    mul-put-allowed-3
+    element-copy-out-put-allowed-3
+    put-allowed-requires
+    same-length
+    returns)

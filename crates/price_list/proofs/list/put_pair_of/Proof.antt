@@ -1,0 +1,87 @@
+-- `put_pair_of` meets its contract: every index lies in its buffer, and the numbers are those of the buffers.
+use Prim.Native.Nat.{_+_, _*_}
+use native.Mathlib.Omega.{arith}
+use borrow.Author.Needs.{needs}
+use lib.IntN.{pos}
+use lib.ListN.{getD}
+use Rattle.price_list.specs.Lines.{pair-of}
+use Rattle.price_list.proofs.PlaceLaws.{pair-place, wide-fits, wide-back, back}
+use Rattle.price_list.proofs.list.put_pair_of.Statement.{statement}
+use Rattle.price_list.proofs.list.put_pair_of.Tie as tie
+
+mul-event : tie.Need-mul-event
+mul-event c = search needs
+
+element-copy-out-event : tie.Need-element-copy-out-event
+element-copy-out-event c = search needs
+
+cast-event : tie.Need-cast-event
+cast-event c = let s = c .before .before .before in omega (arith, pair-place (s .pre .0) (s .args .row) (s .pre .1))
+
+mul-place : tie.Need-mul-place
+mul-place c = let s = c .before .before .before in omega (arith, pair-place (s .pre .0) (s .args .row) (s .pre .1))
+
+add-place : tie.Need-add-place
+add-place c = let s = c .before .before .before in omega (arith, pair-place (s .pre .0) (s .args .row) (s .pre .1))
+
+mul-difference : tie.Need-mul-difference
+mul-difference c = let s = c .before .before .before in omega (arith, pair-place (s .pre .0) (s .args .row) (s .pre .1))
+
+element-copy-out-difference : tie.Need-element-copy-out-difference
+element-copy-out-difference c = let s = c .before .before .before in omega (arith, pair-place (s .pre .0) (s .args .row) (s .pre .1))
+
+cast-difference : tie.Need-cast-difference
+cast-difference c = search (wide-fits, needs)
+
+hut-of-requires : tie.Need-hut-of-requires
+hut-of-requires c κs = search needs
+
+mul-put-pair : tie.Need-mul-put-pair
+mul-put-pair c = search needs
+
+element-copy-out-put-pair : tie.Need-element-copy-out-put-pair
+element-copy-out-put-pair c = search needs
+
+mul-put-pair-2 : tie.Need-mul-put-pair-2
+mul-put-pair-2 c = let s = c .before .before .before .before .before .before .before in omega (arith, pair-place (s .pre .0) (s .args .row) (s .pre .1))
+
+element-copy-out-put-pair-2 : tie.Need-element-copy-out-put-pair-2
+element-copy-out-put-pair-2 c = let s = c .before .before .before .before .before .before .before in omega (arith, pair-place (s .pre .0) (s .args .row) (s .pre .1))
+
+put-pair-requires : tie.Need-put-pair-requires
+put-pair-requires c κs = search needs
+
+same-length : tie.Need-same-length
+same-length c = search needs
+
+returns : tie.Need-returns
+unfolding pair-of
+returns c = 
+    let hut = c .before .before .before .before .before .before in
+    let a = hut .before .before .before .before .before .args in
+    let event = getD (a .columns .now) (a .row) 0 in
+    let cost = wide-back (getD (a .costs .now) (a .row * a .n + event) (pos 0)) (hut .before .difference .given) in
+    let row-price = back (getD (a .row-prices .now) (a .row) (pos 0)) (c .before .before .before .before .put-pair-arg2 .given) in
+    let event-price = back (getD (a .column-prices .now) event (pos 0)) (c .before .before .before .put-pair-arg3 .given) in
+    rw (hut .hut-of .ensures, cost, row-price, event-price) at (c .before .before .put-pair .ensures)
+
+pub put-pair-of-spec : {M : Type 1} → statement M
+put-pair-of-spec =
+    tie.close
+    (tie.spec
+    mul-event
+    element-copy-out-event
+    cast-event
+    mul-place
+    add-place
+    mul-difference
+    element-copy-out-difference
+    cast-difference
+    hut-of-requires
+    mul-put-pair
+    element-copy-out-put-pair
+    mul-put-pair-2
+    element-copy-out-put-pair-2
+    put-pair-requires
+    same-length
+    returns)
