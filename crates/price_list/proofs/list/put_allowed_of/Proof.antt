@@ -50,7 +50,7 @@ same-length c = search needs
 
 returns : tie.Need-returns
 unfolding allowed-of
-returns c = 
+returns c =
     let cell = c .before .before .before .before .before .before .before in
     let a = cell .before .before .args in
     let place = a .row * a .n + a .event in

@@ -56,7 +56,7 @@ same-length c = search needs
 
 returns : tie.Need-returns
 unfolding pair-of
-returns c = 
+returns c =
     let hut = c .before .before .before .before .before .before in
     let a = hut .before .before .before .before .before .args in
     let event = getD (a .columns .now) (a .row) 0 in
