@@ -1,3 +1,5 @@
 pub mod SumLaws
 pub mod PlaceLaws
 pub mod PromiseLaws
+pub mod SolverLaws
+pub mod Theorems

@@ -1,7 +1,6 @@
 -- `print_pairs` meets its contract: it ends after n turns, and what is printed lies in the buffer.
 use mathlib.Core.Path.{_≡_}
 use Prim.Native.Nat.{_-_, _≤_}
-use native.Mathlib.Omega.{arith}
 use borrow.Author.Needs.{needs}
 use lib.ListN.{length}
 use Rattle.text.proofs.PutLaws.{holds-fits, holds-prefix}
