@@ -23,7 +23,7 @@ module _ {file : List ℕ} {before : Room} {p : Pairs} {after : Room} (x : PairP
 
   pub listed : p .number ≡ 0 → Listed (p .n) (after .rest .columns)
   unfolding front
-  listed zero = record { small = few-rows; below = go (judged file) refl }
+  listed paired = record { small = few-rows; below = go (judged file) refl }
     where
       go : (j : Judged) → judged file ≡ j → (row : ℕ) → row < p .n → getD (after .rest .columns) row 0 < p .n
       go (more s) e row h = absurd (never-more file e)
@@ -33,4 +33,4 @@ module _ {file : List ℕ} {before : Room} {p : Pairs} {after : Room} (x : PairP
       go (accepted s) e row h =
           let size : p .n ≡ s .n = ap (λ (q : Pairs). q .n) (x .solved room s e .solved .given) in
           let inside : row < s .n = omega arith in
-          rw (size, ← (getD-take (s .n) (after .rest .columns) row 0 inside)) (x .solved room s e .about .pairing zero .pairing .below row inside)
+          rw (size, ← (getD-take (s .n) (after .rest .columns) row 0 inside)) (x .solved room s e .about .pairing paired .pairing .below row inside)

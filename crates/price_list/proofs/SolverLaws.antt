@@ -1,4 +1,4 @@
--- What the solver's promise says of a pairing's prices: a chosen pair has no spare, every other allowed pair none below 0, and no sum of prices overflows.
+-- What the solver's promise says of a pairing's prices: a chosen pair has no spare, no spare is below 0, and no sum of prices overflows.
 use mathlib.Core.Path.{_≡_, refl, sym, ap, _∙_}
 use mathlib.Core.Option.{Option, some}
 use Prim.Native.Nat.{ℕ, _+_, _*_, _≤_, _<_}
@@ -28,13 +28,20 @@ use Rattle.steps.proofs.Theorems.{in-limits}
 same : {x y : Answer} {b c : Buffers} → _≡_ {A = Option (Answer × Buffers)} (some (x, b)) (some (y, c)) → _≡_ {A = Answer × Buffers} (x, b) (y, c)
 same e = cc
 
+prices-of : {x y : Answer} {b c : Buffers} → _≡_ {A = Option (Answer × Buffers)} (some (x, b)) (some (y, c))
+    → (c .row-prices ≡ b .row-prices) × (c .column-prices ≡ b .column-prices)
+prices-of e =
+    let q = same e in
+    (sym (ap (λ (r : Answer × Buffers). r .1 .row-prices) q), sym (ap (λ (r : Answer × Buffers). r .1 .column-prices) q))
+
 module _ {t : Task} {before : Buffers} {a : Answer} {after : Buffers} (p : Promise 64 t before a after) (paired : a .number ≡ 0) where
   -- the steps ran
   pub taken : verdict t 64 before ≡ accepted
   unfolding judged
   taken = go (verdict t 64 before) refl (verdict-tells 64 t before) (p .exact .exact)
     where
-      go : (v : Verdict) → verdict t 64 before ≡ v → Tells 64 t before v → judged t before (p .exact .count) v ≡ some (a, after) → verdict t 64 before ≡ accepted
+      go : (v : Verdict) → verdict t 64 before ≡ v → Tells 64 t before v
+          → judged t before (p .exact .count) v ≡ some (a, after) → verdict t 64 before ≡ accepted
       go accepted e tells q = e
       go (refused number place) e tells q =
           let z : number ≡ a .number = ap (λ (r : Answer × Buffers). r .0 .number) (same q) in
@@ -51,13 +58,15 @@ module _ {t : Task} {before : Buffers} {a : Answer} {after : Buffers} (p : Promi
   no-spare i h =
       let q = p .pairing paired in
       let spare : ℕ → ℤ = λ k. working-at (t .n) after k (column (after .columns) k) in
-      let whole : (k : ℕ) → k < t .n → pos 0 ≤ℤ spare k = λ k l. list .whole k (column (after .columns) k) l (q .pairing .below k l) (q .allowed k l) in
+      let whole : (k : ℕ) → k < t .n → pos 0 ≤ℤ spare k =
+      λ k l. list .whole k (column (after .columns) k) l (q .pairing .below k l) (q .allowed k l) in
       let prices : ℤ = sumℤ (row-price-at after) (t .n) +ℤ sumℤ (column-price-at after) (t .n) in
       let all : prices ≡ prices +ℤ sumℤ spare (t .n) =
-          sym (p .adds-up paired) ∙ p .totalled paired ∙ weighed list (after .columns) q in
+      sym (p .adds-up paired) ∙ p .totalled paired ∙ weighed list (after .columns) q in
       omega (signed, plus-parts prices (sumℤ spare (t .n)), all, le-sumℤ spare (t .n) i whole h, whole i h)
 
-  pub pair-adds : (i : ℕ) → i < t .n → cost t i (column (after .columns) i) ≡ row-price-at after i +ℤ column-price-at after (column (after .columns) i)
+  pub pair-adds : (i : ℕ) → i < t .n
+      → cost t i (column (after .columns) i) ≡ row-price-at after i +ℤ column-price-at after (column (after .columns) i)
   pair-adds i h =
       let q = p .pairing paired in
       list .equation i (column (after .columns) i) h (q .pairing .below i h) (q .allowed i h) ∙ rw (no-spare i h) (+ℤ-idr _)
@@ -70,11 +79,12 @@ module _ {t : Task} {before : Buffers} {a : Answer} {after : Buffers} (p : Promi
   -- ---- sums of prices
 
   -- the prices are those of the last step
-  at-end : (m : Machine) (x : Next) → given t before m x ≡ some (a, after) → (after .row-prices ≡ m .row-prices) × (after .column-prices ≡ m .column-prices)
+  at-end : (m : Machine) (x : Next) → given t before m x ≡ some (a, after)
+      → (after .row-prices ≡ m .row-prices) × (after .column-prices ≡ m .column-prices)
   unfolding given written
-  at-end m Paired e = let q = same e in (sym (ap (λ (r : Answer × Buffers). r .1 .row-prices) q), sym (ap (λ (r : Answer × Buffers). r .1 .column-prices) q))
-  at-end m NoPairing e = let q = same e in (sym (ap (λ (r : Answer × Buffers). r .1 .row-prices) q), sym (ap (λ (r : Answer × Buffers). r .1 .column-prices) q))
-  at-end m Unfinished e = let q = same e in (sym (ap (λ (r : Answer × Buffers). r .1 .row-prices) q), sym (ap (λ (r : Answer × Buffers). r .1 .column-prices) q))
+  at-end m Paired e = prices-of e
+  at-end m NoPairing e = prices-of e
+  at-end m Unfinished e = prices-of e
   at-end m Step3 e = let z : _≡_ {A = ℕ} 0 1 = cc in absurd (omega arith)
   at-end m Step4 e = let z : _≡_ {A = ℕ} 0 1 = cc in absurd (omega arith)
   at-end m (Step5 i j) e = let z : _≡_ {A = ℕ} 0 1 = cc in absurd (omega arith)
@@ -88,11 +98,14 @@ module _ {t : Task} {before : Buffers} {a : Answer} {after : Buffers} (p : Promi
   as-last = at-end last (last .run .next) (sym (ap (judged t before (p .exact .count)) taken) ∙ p .exact .exact)
 
   -- sums of at most 64 prices, each at most 258,000,000,000 away from 0
-  held : (f : ℕ → ℤ) (small : t .n ≤ 64) → ((i : ℕ) → i < t .n → Within (2_000_000_000 + 4_000_000_000 * t .n) (f i)) → (k : ℕ) → k ≤ t .n → SFits w64 (sumℤ f k)
+  held : (f : ℕ → ℤ) (small : t .n ≤ 64) → ((i : ℕ) → i < t .n → Within (2_000_000_000 + 4_000_000_000 * t .n) (f i))
+      → (k : ℕ) → k ≤ t .n → SFits w64 (sumℤ f k)
   held f small within k h =
       let wide : (i : ℕ) → i < k → Within 258_000_000_000 (f i) =
-          λ i l. let w = within i (omega arith) in
-          record { above = omega (signed, w .above, neg-parts (pos (2_000_000_000 + 4_000_000_000 * t .n)), neg-parts (pos 258_000_000_000)); below = omega (signed, w .below) } in
+      λ i l.
+      let w = within i (omega arith) in
+      let parts = neg-parts (pos (2_000_000_000 + 4_000_000_000 * t .n)) in
+      record { above = omega (signed, w .above, parts, neg-parts (pos 258_000_000_000)); below = omega (signed, w .below) } in
       within-fits w64 (sumℤ-within 258_000_000_000 f k wide) (omega arith)
 
   pub row-prices-held : t .n ≤ 64 → (k : ℕ) → k ≤ t .n → SFits w64 (sumℤ (row-price-at after) k)

@@ -78,7 +78,8 @@ unfolding sumℤ
 summed-none values = record { summed = λ held. refl }
 
 -- one more value, as the code adds it
-pub summed-more : {values : List ℤ} {k : ℕ} {z r : ℤ} → Summed values k z → SFits w64 (getD values k (pos 0)) → Sum z (kept (getD values k (pos 0))) r → SFits w64 r
+pub summed-more : {values : List ℤ} {k : ℕ} {z r : ℤ} → Summed values k z
+    → SFits w64 (getD values k (pos 0)) → Sum z (kept (getD values k (pos 0))) r → SFits w64 r
     → Summed values (k + 1) (kept r)
 summed-more {values} {k} {z} {r} s fits more held-r = record {
   summed = λ held.

@@ -50,7 +50,8 @@ pub record AddsUp (n : ℕ) (r : Room) (total : ℤ) : Type 0 where
   pub rows : (z : ℤ) → SumOf n (r .rest .row-prices) z → z ≡ sumℤ (row-price r) n
   pub events : (z : ℤ) → SumOf n (r .rest .column-prices) z → z ≡ sumℤ (event-price r) n
 
-module _ {file : List ℕ} {s : Scan} {before : Room} {p : Pairs} {after : Room} (y : Solved file s before p after) (small : s .n ≤ 64) (paired : p .number ≡ 0) where
+module _ {file : List ℕ} {s : Scan} {before : Room} {p : Pairs} {after : Room}
+    (y : Solved file s before p after) (small : s .n ≤ 64) (paired : p .number ≡ 0) where
   abbrev n : ℕ
   n = s .n
 
@@ -61,13 +62,15 @@ module _ {file : List ℕ} {s : Scan} {before : Room} {p : Pairs} {after : Room}
   cost-same : (i j : ℕ) → i < n → j < n → difference n after i j ≡ cost-at n (square (pair-cost file s) n) i j
   unfolding cost-at filled
   cost-same i j hi hj =
-      rw (y .costs) (List·getD-append (square (pair-cost file s) n) _ (pos 0) (i * n + j) (omega (arith, place-lt n i j hi hj, length-square (pair-cost file s) n)))
+      let inside : i * n + j < length (square (pair-cost file s) n) = omega (arith, place-lt n i j hi hj, length-square (pair-cost file s) n) in
+      rw (y .costs) (List·getD-append (square (pair-cost file s) n) _ (pos 0) (i * n + j) inside)
 
   mask-same : (i j : ℕ) → i < n → j < n → cell 0 n (after .mask) i j ≡ cell 1 n (square (mask-byte file s) n) i j
   unfolding filled
   mask-same i j hi hj =
       let inside : i * n + j < length (square (mask-byte file s) n) = omega (arith, place-lt n i j hi hj, length-square (mask-byte file s) n) in
-      rw (y .mask) (List·getD-append (square (mask-byte file s) n) _ 0 (i * n + j) inside ∙ getD-inside 0 1 (square (mask-byte file s) n) (i * n + j) inside)
+      rw (y .mask) (List·getD-append (square (mask-byte file s) n) _ 0 (i * n + j) inside
+      ∙ getD-inside 0 1 (square (mask-byte file s) n) (i * n + j) inside)
 
   pairs-add : (row : ℕ) → row < n → difference n after row (event-of after row) ≡ row-price after row +ℤ event-price after (event-of after row)
   unfolding front
@@ -86,7 +89,8 @@ module _ {file : List ℕ} {s : Scan} {before : Room} {p : Pairs} {after : Room}
       let rest = after .rest in
       let held = allowed-adds (y .solved .solver) zero-number i j hi hj (eqb-yes _ 1 (sym (mask-same i j hi hj) ∙ one)) in
       let working = getD-take (n * n) (rest .working) (i * n + j) (pos 0) (place-lt n i j hi hj) in (
-        cost-same i j hi hj ∙ (rw (getD-take n (rest .row-prices) i (pos 0) hi, getD-take n (rest .column-prices) j (pos 0) hj, working) at (held .0)),
+        cost-same i j hi hj
+            ∙ (rw (getD-take n (rest .row-prices) i (pos 0) hi, getD-take n (rest .column-prices) j (pos 0) hj, working) at (held .0)),
         rw working at (held .1),
       )
 
@@ -103,7 +107,9 @@ module _ {file : List ℕ} {s : Scan} {before : Room} {p : Pairs} {after : Room}
     pairs = pairs-add;
     every = λ i j hi hj one. every-adds i j hi hj one .0;
     spares = λ i j hi hj one. every-adds i j hi hj one .1;
-    total-is = ap (λ (q : Pairs). q .total) (y .solved .given) ∙ y .solved .solver .adds-up zero-number ∙ rw (row-sums n (omega arith), event-sums n (omega arith));
+    total-is =
+        ap (λ (q : Pairs). q .total) (y .solved .given) ∙ y .solved .solver .adds-up zero-number
+        ∙ rw (row-sums n (omega arith), event-sums n (omega arith));
     rows = λ z given. given (λ k h. rw (← row-sums k h) (row-prices-held (y .solved .solver) zero-number small k h));
     events = λ z given. given (λ k h. rw (← event-sums k h) (column-prices-held (y .solved .solver) zero-number small k h));
   }

@@ -55,4 +55,5 @@ pair-of file n costs columns row-prices column-prices row =
 -- a row and an event that may be paired
 unfoldable pub allowed-of : ℕ → List ℤ → List ℤ → List ℤ → List ℤ → ℕ → ℕ → List ℕ
 allowed-of n costs working row-prices column-prices row event =
-    allowed-line row event (cell (pos 0) n costs row event) (getD row-prices row (pos 0)) (getD column-prices event (pos 0)) (cell (pos 0) n working row event)
+    allowed-line row event (cell (pos 0) n costs row event) (getD row-prices row (pos 0)) (getD column-prices event (pos 0))
+    (cell (pos 0) n working row event)

@@ -7,7 +7,8 @@ use native.Mathlib.Decide.{decLe}
 use native.Mathlib.Numerals.{add-one}
 use native.Mathlib.Omega.{arith}
 use lib.ListN.{length, getD, set, take, drop, length-append, length-take, length-drop, length-set}
-use lib.Seq.{take-nil, take-all, take-at, take-append-add, drop-length, drop-append-add, drop-drop, length-take-le, paste, paste-zero, paste-suc, length-paste-head}
+use lib.Seq.{take-nil, take-all, take-at, take-append-add, length-take-le, drop-length, drop-append-add, drop-drop}
+use lib.Seq.{paste, paste-zero, paste-suc, length-paste-head}
 use Rattle.text.specs.Text.{front, put}
 
 -- a used part as long as the buffer: nothing is added

@@ -53,7 +53,8 @@ hut-small file bytes i number = go (judged file)
     go (refused k place) e = let z : _≡_ {A = ℕ} 0 1 = cc in absurd (omega arith)
     go (accepted s) e = here s (ltb i (s .n)) e
 
-pub short-rows : (file columns : List ℕ) → Bytes file → (n : ℕ) → ((i : ℕ) → i < n → getD columns i 0 < 64) → length (row-lines file columns n) ≤ 9 * n
+pub short-rows : (file columns : List ℕ) → Bytes file → (n : ℕ)
+    → ((i : ℕ) → i < n → getD columns i 0 < 64) → length (row-lines file columns n) ≤ 9 * n
 unfolding row-lines
 short-rows file columns bytes zero below = omega arith
 short-rows file columns bytes (suc n) below =
@@ -67,7 +68,8 @@ short-rows file columns bytes (suc n) below =
 near : (file : List ℕ) (s : Scan) (i j : ℕ) → s .window ≤ 1_000_000_000 → T (may-pair file s i j) → clock-error file s i j ≤ 1_000_000_000
 unfolding may-pair
 near file s i j low t =
-    omega (arith, nltb→le (s .window) (clock-error file s i j) (and-right (eqb (row-area file s i) (column-area file s j)) (not (ltb (s .window) (clock-error file s i j))) t))
+    let far = ltb (s .window) (clock-error file s i j) in
+    omega (arith, nltb→le (s .window) (clock-error file s i j) (and-right (eqb (row-area file s i) (column-area file s j)) (not far) t))
 
 module _ (file : List ℕ) (s : Scan) (columns : List ℕ) (small : s .n ≤ 64) (low : s .window ≤ 1_000_000_000)
     (pairing : AllowedPairing (s .n) (s .n) (may-pair file s) columns) where

@@ -22,7 +22,8 @@ use Rattle.valley.proofs.LineLaws.{lines-paired, lines-none, lines-refu
 use Rattle.valley.proofs.Lengths.{Bytes, short-rows, short-total-line, short-refusal}
 
 -- two reports of a file are equal: the count, and every byte of the buffer
-pub only-report : {file out : List ℕ} {r r′ : ℕ} {after after′ : List ℕ} → Reported file out r after → Reported file out r′ after′ → (r ≡ r′) × (after ≡ after′)
+pub only-report : {file out : List ℕ} {r r′ : ℕ} {after after′ : List ℕ}
+    → Reported file out r after → Reported file out r′ after′ → (r ≡ r′) × (after ≡ after′)
 only-report {file} {out} x y =
     let same = only-pairs (λ t before a a′ b b′ p q. only-answer p q) file fresh (x .promise) (y .promise) in
     let text : lines file (x .pairs) (x .filled .rest .columns) ≡ lines file (y .pairs) (y .filled .rest .columns) =

@@ -32,4 +32,5 @@ no-pairing = 78 ∷ 79 ∷ 32 ∷ 80 ∷ 65 ∷ 73 ∷ 82 ∷ 73 ∷ 78 ∷ 71 �
 -- at 0 the rows and the total, at 6 the fixed line, at every other number the refusal
 unfoldable pub lines : List ℕ → Pairs → List ℕ → List ℕ
 lines file p columns =
-    cond (eqb (p .number) 0) (row-lines file columns (p .n) ++ total-line (p .total)) (cond (eqb (p .number) 6) no-pairing (refusal (p .number) (p .place)))
+    cond (eqb (p .number) 0) (row-lines file columns (p .n) ++ total-line (p .total))
+    (cond (eqb (p .number) 6) no-pairing (refusal (p .number) (p .place)))

@@ -32,14 +32,17 @@ pair-case-requires c κs = search needs
 
 print-list-requires : tie.Need-print-list-requires
 unfolding fits
-print-list-requires c κs = listed (c .before .before .before .before .before .before .before .before .before .before .before .before .before .before .before .pair-case .ensures) refl (c .before .before .before .before .before .before .if1 .taken)
+print-list-requires c κs =
+    listed (c .before .before .before .before .before .before .before .before .before .before .before .before .before .before .before .pair-case .ensures) refl
+    (c .before .before .before .before .before .before .if1 .taken)
 
 returns : tie.Need-returns
 returns c = search needs
 
 print-block-requires : tie.Need-print-block-requires
 unfolding fits
-print-block-requires c κs = few-rows (c .before .before .before .before .before .before .before .before .before .before .before .pair-case .ensures) refl
+print-block-requires c κs =
+    few-rows (c .before .before .before .before .before .before .before .before .before .before .before .pair-case .ensures) refl
 
 returns-2 : tie.Need-returns-2
 returns-2 c = search needs

@@ -23,9 +23,11 @@ same-length c = search needs
 returns : tie.Need-returns
 unfolding right
 returns c =
-    let front : Holds _ _ _ _ _ = record { held = c .before .before .before .before .before .before .put-blanks .ensures } in
-    let length = c .before .before .before .before .before .before .before .before .decimal-length .ensures .0 in
-    rw (right, ← length, ← (c .before .before .before .before .before .before .before .left-of .ensures)) (holds-more front _ (c .before .before .put-decimal .ensures) .held)
+    let blank = c .before .before .before .before .before .before in
+    let left = blank .before in
+    let front : Holds _ _ _ _ _ = record { held = blank .put-blanks .ensures } in
+    rw (right, ← (left .before .decimal-length .ensures .0), ← (left .left-of .ensures))
+    (holds-more front _ (c .before .before .put-decimal .ensures) .held)
 
 pub put-decimal-right-spec : {M : Type 1} → statement M
 put-decimal-right-spec =

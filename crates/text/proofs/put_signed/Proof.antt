@@ -37,8 +37,9 @@ same-length-2 c = search needs
 
 returns-2 : tie.Need-returns-2
 returns-2 c =
-    let m = c .before .before .before .before .before in
-    rw (signed-above _ (m .before .before .fits .z) _ (m .magnitude .ensures) (c .before .before .before .before .if1 .left)) (c .before .before .put-decimal2 .ensures)
+    let test = c .before .before .before .before in
+    let m = test .before in
+    rw (signed-above _ (m .before .before .fits .z) _ (m .magnitude .ensures) (test .if1 .left)) (c .before .before .put-decimal2 .ensures)
 
 pub put-signed-spec : {M : Type 1} → statement M
 put-signed-spec =

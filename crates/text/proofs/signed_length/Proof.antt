@@ -20,7 +20,8 @@ returns c =
 
 returns-2 : tie.Need-returns-2
 returns-2 c =
-    rw (signed-above _ (c .before .before .before .fits .z) _ (c .before .before .magnitude .ensures) (c .if1 .left)) (c .before .decimal-length .ensures .0)
+    rw (signed-above _ (c .before .before .before .fits .z) _ (c .before .before .magnitude .ensures) (c .if1 .left))
+    (c .before .decimal-length .ensures .0)
 
 pub signed-length-spec : {M : Type 1} → statement M
 signed-length-spec =

@@ -23,10 +23,14 @@ loop-holds : tie.Need-loop-holds Inv-loop μ-loop
 loop-holds c = search needs
 
 add-if1 : tie.Need-add-if1 Inv-loop μ-loop
-add-if1 c = let s = c .before .before in omega (arith, place-fits (s .args .n) (s .args .row) (c .before .loop .event) (omega arith) (omega arith) (omega arith))
+add-if1 c =
+    let s = c .before .before in
+    omega (arith, place-fits (s .args .n) (s .args .row) (c .before .loop .event) (omega arith) (omega arith) (omega arith))
 
 element-copy-out-if1 : tie.Need-element-copy-out-if1 Inv-loop μ-loop
-element-copy-out-if1 c = let s = c .before .before in omega (arith, place-fits (s .args .n) (s .args .row) (c .before .loop .event) (omega arith) (omega arith) (omega arith))
+element-copy-out-if1 c =
+    let s = c .before .before in
+    omega (arith, place-fits (s .args .n) (s .args .row) (c .before .loop .event) (omega arith) (omega arith) (omega arith))
 
 slice-aggregate-put-allowed-of : tie.Need-slice-aggregate-put-allowed-of Inv-loop μ-loop
 slice-aggregate-put-allowed-of c = search needs

@@ -5,21 +5,21 @@ use borrow.Author.Needs.{needs}
 use lib.IntN.{pos}
 use lib.ListN.{getD}
 use Rattle.price_list.specs.Lines.{allowed-of}
-use Rattle.price_list.proofs.PlaceLaws.{place-fits, wide-fits, wide-back, back}
+use Rattle.price_list.proofs.PlaceLaws.{cell-place, wide-fits, wide-back, back}
 use Rattle.price_list.proofs.list.put_allowed_of.Statement.{statement}
 use Rattle.price_list.proofs.list.put_allowed_of.Tie as tie
 
 mul-place : tie.Need-mul-place
-mul-place c = let s = c .before in omega (arith, place-fits (s .args .n) (s .args .row) (s .args .event) (s .pre .0) (s .pre .1) (s .pre .2))
+mul-place c = let s = c .before in omega (arith, cell-place _ _ _ (s .pre))
 
 add-place : tie.Need-add-place
-add-place c = let s = c .before in omega (arith, place-fits (s .args .n) (s .args .row) (s .args .event) (s .pre .0) (s .pre .1) (s .pre .2))
+add-place c = let s = c .before in omega (arith, cell-place _ _ _ (s .pre))
 
 mul-difference : tie.Need-mul-difference
-mul-difference c = let s = c .before in omega (arith, place-fits (s .args .n) (s .args .row) (s .args .event) (s .pre .0) (s .pre .1) (s .pre .2))
+mul-difference c = let s = c .before in omega (arith, cell-place _ _ _ (s .pre))
 
 element-copy-out-difference : tie.Need-element-copy-out-difference
-element-copy-out-difference c = let s = c .before in omega (arith, place-fits (s .args .n) (s .args .row) (s .args .event) (s .pre .0) (s .pre .1) (s .pre .2))
+element-copy-out-difference c = let s = c .before in omega (arith, cell-place _ _ _ (s .pre))
 
 cast-difference : tie.Need-cast-difference
 cast-difference c = search (wide-fits, needs)
@@ -37,10 +37,10 @@ element-copy-out-put-allowed-2 : tie.Need-element-copy-out-put-allowed-2
 element-copy-out-put-allowed-2 c = search needs
 
 mul-put-allowed-3 : tie.Need-mul-put-allowed-3
-mul-put-allowed-3 c = let s = c .before .before .before .before .before in omega (arith, place-fits (s .args .n) (s .args .row) (s .args .event) (s .pre .0) (s .pre .1) (s .pre .2))
+mul-put-allowed-3 c = let s = c .before .before .before .before .before in omega (arith, cell-place _ _ _ (s .pre))
 
 element-copy-out-put-allowed-3 : tie.Need-element-copy-out-put-allowed-3
-element-copy-out-put-allowed-3 c = let s = c .before .before .before .before .before in omega (arith, place-fits (s .args .n) (s .args .row) (s .args .event) (s .pre .0) (s .pre .1) (s .pre .2))
+element-copy-out-put-allowed-3 c = let s = c .before .before .before .before .before in omega (arith, cell-place _ _ _ (s .pre))
 
 put-allowed-requires : tie.Need-put-allowed-requires
 put-allowed-requires c κs = search needs

@@ -43,10 +43,14 @@ element-copy-out-put-pair : tie.Need-element-copy-out-put-pair
 element-copy-out-put-pair c = search needs
 
 mul-put-pair-2 : tie.Need-mul-put-pair-2
-mul-put-pair-2 c = let s = c .before .before .before .before .before .before .before in omega (arith, pair-place (s .pre .0) (s .args .row) (s .pre .1))
+mul-put-pair-2 c =
+    let s = c .before .before .before .before .before .before .before in
+    omega (arith, pair-place (s .pre .0) (s .args .row) (s .pre .1))
 
 element-copy-out-put-pair-2 : tie.Need-element-copy-out-put-pair-2
-element-copy-out-put-pair-2 c = let s = c .before .before .before .before .before .before .before in omega (arith, pair-place (s .pre .0) (s .args .row) (s .pre .1))
+element-copy-out-put-pair-2 c =
+    let s = c .before .before .before .before .before .before .before in
+    omega (arith, pair-place (s .pre .0) (s .args .row) (s .pre .1))
 
 put-pair-requires : tie.Need-put-pair-requires
 put-pair-requires c κs = search needs

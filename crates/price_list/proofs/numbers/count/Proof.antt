@@ -25,7 +25,9 @@ has-requires : tie.Need-has-requires Inv-loop μ-loop
 has-requires c κs = omega arith
 
 add-counted : tie.Need-add-counted Inv-loop μ-loop
-add-counted c = let l = c .before .before .before .loop in omega (arith, l .inv .1, count-le (has (c .before .before .before .before .args .set)) (l .line))
+add-counted c =
+    let l = c .before .before .before in
+    omega (arith, l .loop .inv .1, count-le (has (l .before .args .set)) (l .loop .line))
 
 add-line : tie.Need-add-line Inv-loop μ-loop
 add-line c = omega arith

@@ -48,7 +48,8 @@ returns c =
     let h4 = holds-more h3 _ (s4 .put .ensures) in
     let h5 = holds-more h4 _ (s5 .put-right .ensures) in
     let given = s1 .before .before .before .fits in
-    rw (toZ-ofZ (given .difference), toZ-ofZ (given .row-price), toZ-ofZ (given .event-price), toZ-ofZ (given .spare)) at (holds-more h5 _ (s6 .put2 .ensures) .held)
+    rw (toZ-ofZ (given .difference), toZ-ofZ (given .row-price), toZ-ofZ (given .event-price), toZ-ofZ (given .spare))
+    at (holds-more h5 _ (s6 .put2 .ensures) .held)
 
 pub put-allowed-spec : {M : Type 1} → statement M
 put-allowed-spec =

@@ -17,9 +17,11 @@ same-length c = search needs
 
 returns : tie.Need-returns
 returns c =
-    let pairs = c .before .before .before .before .before .before .before .before .before .before .before .before .before .before .args .pairs in
+    let rows = c .before .before .before .before .before .before .before in
+    let test = rows .before .before in
+    let pairs = test .before .before .before .before .before .args .pairs in
     let same = toZ-ofZ {w = w64} {z = pairs .total} (record { sfits = c .before .before .before .struct-told .given .1 .1 .1 .1 .0 .1 }) in
-    paired-put _ pairs _ _ (c .before .before .before .before .before .before .before .before .before .if1 .taken) (c .before .before .before .before .before .before .before .put-rows .ensures) (rw same at (c .before .before .put-total .ensures))
+    paired-put _ pairs _ _ (test .if1 .taken) (rows .put-rows .ensures) (rw same at (c .before .before .put-total .ensures))
 
 slice-aggregate-put : tie.Need-slice-aggregate-put
 slice-aggregate-put c = search needs
@@ -31,7 +33,10 @@ same-length-2 : tie.Need-same-length-2
 same-length-2 c = search needs
 
 returns-2 : tie.Need-returns-2
-returns-2 c = let pairs = c .before .before .before .before .before .before .before .before .before .before .before .before .args .pairs in rw (lines-none _ pairs _ (c .before .before .before .before .before .if2 .taken)) (c .before .before .put .ensures)
+returns-2 c =
+    let test = c .before .before .before .before .before in
+    rw (lines-none _ (test .before .before .before .before .before .before .before .args .pairs) _ (test .if2 .taken))
+    (c .before .before .put .ensures)
 
 put-refusal-requires : tie.Need-put-refusal-requires
 put-refusal-requires c κs = search needs
@@ -41,8 +46,10 @@ same-length-3 c = search needs
 
 returns-3 : tie.Need-returns-3
 returns-3 c =
-    let pairs = c .before .before .before .before .before .before .before .before .before .before .before .args .pairs in
-    rw (lines-refused _ pairs _ (c .before .before .before .before .before .before .if1 .left) (c .before .before .before .before .if2 .left)) (c .before .before .put-refusal .ensures)
+    let second = c .before .before .before .before in
+    let first = second .before .before in
+    rw (lines-refused _ (first .before .before .before .before .before .args .pairs) _ (first .if1 .left) (second .if2 .left))
+    (c .before .before .put-refusal .ensures)
 
 pub lines-spec : {M : Type 1} → statement M
 lines-spec =

@@ -36,8 +36,10 @@ loop-less c = omega arith
 
 loop-again : tie.Need-loop-again Inv-loop μ-loop
 loop-again c =
-    let hut = c .before .before .before .before .before in
-    (omega arith, rw (rows-more _ _ _ _ _ (hut .hut-of .ensures) (c .before .before .before .before .column-of .ensures)) (holds-more (hut .before .before .loop .inv .1) _ (c .before .before .put-row .ensures)))
+    let column = c .before .before .before .before in
+    let hut = column .before in
+    let line = holds-more (hut .before .before .loop .inv .1) _ (c .before .before .put-row .ensures) in
+    (omega arith, rw (rows-more _ _ _ _ _ (hut .hut-of .ensures) (column .column-of .ensures)) line)
 
 same-length : tie.Need-same-length Inv-loop μ-loop
 same-length c = holds-long (c .before .loop .inv .1)
