@@ -9,8 +9,8 @@ pub mod Sumsℤ
 pub mod Squares
 pub mod Sets
 pub mod Bits
-pub mod Walks
 pub mod Words
+pub mod Walks
 pub mod Loops
 pub mod Rows
 pub mod Bounds

@@ -2,17 +2,20 @@
 -- loop keeps from line to line passes over the lines between two of them.
 use mathlib.Core.Path.{_≡_, refl, sym, ap, _∙_}
 use mathlib.Core.Logic.{_≢_, dite}
-use mathlib.Core.Bool.{true, false}
-use Prim.Native.Nat.{ℕ, zero, suc, _+_, _^_, _≤_, _<_}
+use mathlib.Core.Bool.{Bool, true, false, not, cond}
+use Prim.Native.Nat.{ℕ, zero, suc, _+_, _%_, _^_, _≤_, _<_}
+use native.Mathlib.Nat.{mod-lt, div-add-mod'}
 use native.Mathlib.Decide.{ℕ-discrete, decLt}
 use native.Mathlib.Omega.{arith}
 use borrow.Author.Tests.{not-true, not-false}
+use lib.Pow.{pow-pos}
 use Rattle.lines.specs.First.{first}
 use Rattle.lines.specs.Sets.{has, without, rest}
 use Rattle.lines.proofs.Tests.{T-true, T-false, clash}
 use Rattle.lines.proofs.Firsts.{first-is, first-at, first-none}
-use Rattle.lines.proofs.Sets.{has-empty, has-rest, without-le, without-lt, without-same, without-other}
+use Rattle.lines.proofs.Sets.{has-empty, has-rest, rest-lt, without-le, without-lt, without-same, without-other}
 use Rattle.lines.proofs.Bits.{lowest-lt}
+use Rattle.lines.proofs.Words.{has-below}
 
 -- what holds at i and passes from line to line holds at j
 pass : (P : ℕ → Type 0) (i j : ℕ) → i ≤ j → P i → ((k : ℕ) → i ≤ k → k < j → P k → P (k + 1)) → P j
@@ -107,9 +110,28 @@ module _ {n s : ℕ} {P : ℕ → Type 0} {left t : ℕ} (d : ℕ) (small : n �
     on = λ Q next k q f. rw (k, ← e) (goes-on Q q f);
   }
 
--- where the set is what another one lacks: its members are not in that, and the lines that are passed over are
+-- ---- the sets that are walked over
+
+-- what another set lacks: the members are not in that one, and the lines that are passed over are
 pub lacked : (n s k : ℕ) → k < n → has (rest n s) k ≡ true → has s k ≡ false
 lacked n s k h y = not-true (has s k) (sym (has-rest n s k h) ∙ y)
 
 pub not-lacked : (n s k : ℕ) → k < n → has (rest n s) k ≡ false → has s k ≡ true
 not-lacked n s k h y = not-false (has s k) (sym (has-rest n s k h) ∙ y)
+
+-- a set's own lines below n, or those that it lacks
+has-cut : (n s k : ℕ) → k < n → has (s % 2 ^ n) k ≡ has s k
+has-cut n s k h = sym (ap (λ (x : ℕ). has x k) (sym (div-add-mod' s (2 ^ n))) ∙ has-below n _ _ k h)
+
+module _ (n s : ℕ) where
+  pub alike-lt : (b : Bool) → cond b (s % 2 ^ n) (rest n s) < 2 ^ n
+  alike-lt true = mod-lt s (pow-pos n)
+  alike-lt false = rest-lt n s
+
+  pub alike : (b : Bool) (k : ℕ) → k < n → has (cond b (s % 2 ^ n) (rest n s)) k ≡ true → has s k ≡ b
+  alike true k h y = sym (has-cut n s k h) ∙ y
+  alike false k h y = lacked n s k h y
+
+  pub unlike : (b : Bool) (k : ℕ) → k < n → has (cond b (s % 2 ^ n) (rest n s)) k ≡ false → has s k ≡ not b
+  unlike true k h y = sym (has-cut n s k h) ∙ y
+  unlike false k h y = not-lacked n s k h y

@@ -1,8 +1,8 @@
 // Covered lines: a set of rows or of columns is one 64-bit word, bit i for line i; and the searches for uncovered zeros, along a row for step 2, column by column for step 4.
 ghost use mathlib.Core.Path.{_≡_};
-ghost use mathlib.Core.Bool.{not, _&&_};
+ghost use mathlib.Core.Bool.{cond, not, _&&_};
 ghost use mathlib.Core.Logic.{_≢_};
-ghost use Prim.Native.Nat.{_<_, _≤_};
+ghost use Prim.Native.Nat.{_%_, _^_, _<_, _≤_};
 ghost use Rattle.lines.specs.First.{first};
 ghost use Rattle.lines.specs.Sets.{has, with, without, all as all-below, rest};
 ghost use Rattle.steps.specs.Lent.{allows};
@@ -52,6 +52,18 @@ pub(crate) fn uncovered_lines(n: usize, lines: u64) -> u64
     ensures { λ r. ⌜ r ≡ rest n lines ⌝ }
 {
     !lines & all_lines(n)
+}
+
+// The lines below n that are covered, or those that are not.
+pub(crate) fn lines_alike(n: usize, lines: u64, covered: bool) -> u64
+    requires { ⌜ (1 ≤ n) × (n ≤ 64) ⌝ }
+    ensures { λ r. ⌜ r ≡ cond covered (lines % 2 ^ n) (rest n lines) ⌝ }
+{
+    if covered {
+        lines & all_lines(n)
+    } else {
+        uncovered_lines(n, lines)
+    }
 }
 
 // The searches of steps 4 and 6 walk over the uncovered lines by the next two functions: a test of every line is a branch seldom foretold.

@@ -175,7 +175,7 @@ fn followed_value(change: i64, row: bool, column: bool, value: i64) -> i64
     }
 }
 
-// Every allowed cell of the row is stored, changed or not: a store for each is faster than a branch.
+// In a covered row the covered columns' values change, and in another one the uncovered columns'.
 fn follow_row(
     n: usize,
     mask: &[u8],
@@ -190,14 +190,13 @@ fn follow_row(
     ensures { λ _. ⌜ now (working .exit) ≡ each-row n row (λ j w. cond (allows n (now (mask .entry)) row j) (follow change covered (has columns j) w) w) (now (working .entry)) ⌝ }
 {
     let start = row * n;
-    let mut column = 0;
-    while column < n {
-        let place = start + column;
+    let mut left = coverage::lines_alike(n, columns, covered);
+    while left != 0 {
+        let place = start + coverage::lowest_line(left);
         if mask[place] == 1 {
-            let crossed = coverage::is_covered(columns, column);
-            working[place] = followed_value(change, covered, crossed, working[place]);
+            working[place] = followed_value(change, covered, covered, working[place]);
         }
-        column += 1;
+        left = coverage::without_lowest(left);
     }
 }
 

@@ -1,17 +1,19 @@
 -- `weight_matrix::follow_row` meets its contract: the row's columns so far are done (`RowPassed`). Assumes nothing.
 use borrow.Author.Needs.{needs}
-use mathlib.Core.Path.{_∙_}
-use mathlib.Core.Bool.{cond}
-use Prim.Native.Nat.{_+_, _*_, _-_, _≤_}
+use mathlib.Core.Path.{_≡_, refl, _∙_}
+use mathlib.Core.Bool.{Bool, true, false, not, cond}
+use mathlib.Core.List.{List}
+use Prim.Native.Nat.{ℕ, _+_, _*_, _%_, _^_}
 use native.Mathlib.Omega.{arith}
-use lib.IntN.{pos}
+use lib.IntN.{ℤ, pos}
 use lib.ListN.{getD}
 use mir.Syntax.{w64}
-use mir.Val.{toZ}
+use mir.Val.{toZ, ofZ}
 use mir.Facts.{toZ-ofZ}
-use Rattle.lines.specs.Sets.{has}
+use Rattle.lines.specs.Sets.{has, rest}
 use Rattle.lines.proofs.Tests.{cases}
 use Rattle.lines.proofs.Rows.{RowPassed, row-none, row-store, row-keep, row-next, row-all}
+use Rattle.lines.proofs.Walks.{Walk, Passes, Met, walk-begin, walk-meets, walk-end, alike-lt, alike, unlike}
 use Rattle.steps.specs.Lent.{allows}
 use Rattle.steps.specs.Steps.{follow}
 use Rattle.lines.proofs.Bounds.{RowFits, row-fits}
@@ -20,70 +22,116 @@ use Rattle.munkres.proofs.Wide.{back64}
 use Rattle.munkres.proofs.weight_matrix.follow_row.Statement.{statement}
 use Rattle.munkres.proofs.weight_matrix.follow_row.Tie as tie
 
+abbrev Alike : ℕ → ℕ → Bool → ℕ
+Alike n columns covered = cond covered (columns % 2 ^ n) (rest n columns)
+
+abbrev Kept : ℕ → List ℕ → ℕ → ℕ → Bool → ℕ → List ℤ → List ℤ → ℕ → Type 0
+Kept n mask columns row covered change before after i =
+    RowPassed (pos 0) n row (λ j w. cond (allows n mask row j) (follow (toZ w64 change) covered (has columns j) w) w) before after i
+
+-- the other columns' values stay
+stays : (ok covered : Bool) (z w : ℤ) → cond ok (follow z covered (not covered) w) w ≡ w
+unfolding follow
+stays false covered z w = refl
+stays true true z w = refl
+stays true false z w = refl
+
+others : (n : ℕ) (mask : List ℕ) (columns row : ℕ) (covered : Bool) (change : ℕ) (before after : List ℤ)
+    → Passes n (Alike n columns covered) (Kept n mask columns row covered change before after)
+others n mask columns row covered change before after k h e =
+    row-keep (pos 0) n row _ before after k h
+    (rw (unlike n columns covered k h e) (stays (allows n mask row k) covered (toZ w64 change) (getD after (row * n + k) (pos 0))))
+
 abbrev Inv-loop : tie.InvT-loop
-Inv-loop n mask columns row covered change working₀ start column₀ working column =
-    RowFits n row × (column ≤ n)
-    × RowPassed (pos 0) n row (λ j w. cond (allows n mask row j) (follow (toZ w64 change) covered (has columns j) w) w) working₀ working column
+Inv-loop n mask columns row covered change working₀ start left₀ working left =
+    RowFits n row × Walk n (Alike n columns covered) (Kept n mask columns row covered change working₀ working) left
 
 abbrev μ-loop : tie.MeasureT-loop
-μ-loop n mask columns row covered change working₀ start column₀ working column = n - column
+μ-loop n mask columns row covered change working₀ start left₀ working left = left
 
 mul-start : tie.Need-mul-start Inv-loop μ-loop
 mul-start c = let f = row-fits _ _ (c .before .pre .0 .small) (c .before .pre .2) in omega arith
 
+lines-alike-requires : tie.Need-lines-alike-requires Inv-loop μ-loop
+lines-alike-requires c κs = search needs
+
 loop-holds : tie.Need-loop-holds Inv-loop μ-loop
-loop-holds c = (row-fits _ _ (c .before .pre .0 .small) (c .before .pre .2), search needs, row-none _ _ _ _ _ (c .before .pre .2))
+loop-holds c =
+    let s = c .before .before in
+    let a = s .args in (
+      row-fits _ _ (s .pre .0 .small) (s .pre .2),
+      rw (c .lines-alike .ensures) (walk-begin (alike-lt (a .n) (a .columns) (a .covered)) (row-none _ _ _ _ _ (s .pre .2)) (others (a .n) (a .mask .now) (a .columns) (a .row) (a .covered) (ofZ w64 (a .change)) _ _)),
+    )
+
+lowest-line-requires : tie.Need-lowest-line-requires Inv-loop μ-loop
+lowest-line-requires c κs = tt
+
+met : (c : tie.After-lowest-line Inv-loop μ-loop) → let a = c .before .before .before .before .before .args in
+    let l = c .before .before .loop in
+    Met 64 (a .n) (Alike (a .n) (a .columns) (a .covered)) (Kept (a .n) (a .mask .now) (a .columns) (a .row) (a .covered) (ofZ w64 (a .change)) (a .working .now) (l .working))
+    (l .left) (c .lowest-line .result)
+met c =
+    let l = c .before .before in
+    walk-meets 64 (l .before .before .before .pre .0 .small) (c .before .loop-test .taken) (c .lowest-line .ensures) (l .loop .inv .1)
 
 add-place : tie.Need-add-place Inv-loop μ-loop
-add-place c = search needs
+add-place c = let h = met c .below in search needs
 
 shared-slice-read-if1 : tie.Need-shared-slice-read-if1 Inv-loop μ-loop
-shared-slice-read-if1 c = search needs
-
-is-covered-requires : tie.Need-is-covered-requires Inv-loop μ-loop
-is-covered-requires c κs = search needs
+shared-slice-read-if1 c = let h = met (c .before) .below in search needs
 
 mul-followed-value : tie.Need-mul-followed-value Inv-loop μ-loop
-mul-followed-value c = search needs
+mul-followed-value c = let h = met (c .before .before) .below in search needs
 
 slice-copy-out-followed-value : tie.Need-slice-copy-out-followed-value Inv-loop μ-loop
-slice-copy-out-followed-value c = search needs
+slice-copy-out-followed-value c = let h = met (c .before .before) .below in search needs
 
 followed-value-requires : tie.Need-followed-value-requires Inv-loop μ-loop
 followed-value-requires c κs =
-    let s = c .before .before .before .before .before .before .before in
+    let t = c .before .before .before in
+    let s = t .before .before .before .before .before in
     let a = s .args in
-    let l = c .before .before .before .before .before .loop in
-    let x = getD (l .working) (a .row * a .n + l .column) (pos 0) in
-    let ok = allows-yes (a .n) (a .mask .now) (a .row) (l .column) (omega arith) (c .before .before .if1 .taken) in
-    rw (toZ-ofZ (s .fits .change), back64 x (c .followed-value-arg .given), row-next _ _ _ _ _ _ _ (l .inv .2), c .before .is-covered .ensures)
-    (s .pre .4 (l .column) (omega arith) (rw ok tt))
+    let m = met t in
+    let j = t .lowest-line .result in
+    let x = getD (t .before .before .loop .working) (a .row * a .n + j) (pos 0) in
+    let h = m .below in
+    let f = t .before .before .loop .inv .0 in
+    let ok = allows-yes (a .n) (a .mask .now) (a .row) j (omega arith) (c .before .if1 .taken) in
+    rw (toZ-ofZ (s .fits .change), back64 x (c .followed-value-arg .given), row-next _ _ _ _ _ _ _ (m .kept))
+    (rw (alike (a .n) (a .columns) (a .covered) j h (m .member)) at (s .pre .4 j h (rw ok tt)))
 
 mul-t19 : tie.Need-mul-t19 Inv-loop μ-loop
-mul-t19 c = search needs
+mul-t19 c = let h = met (c .before .before .before .before) .below in search needs
 
 slice-set-from-working : tie.Need-slice-set-from-working Inv-loop μ-loop
-slice-set-from-working c = search needs
+slice-set-from-working c = let h = met (c .before .before .before .before) .below in search needs
 
-add-column : tie.Need-add-column Inv-loop μ-loop
-add-column c = search needs
+without-lowest-requires : tie.Need-without-lowest-requires Inv-loop μ-loop
+without-lowest-requires c κs = search needs
 
 loop-less : tie.Need-loop-less Inv-loop μ-loop
-loop-less c = search needs
+loop-less c = met (c .before .before .before) .less _ (c .without-lowest .ensures)
 
 loop-again : tie.Need-loop-again Inv-loop μ-loop
 loop-again c =
-    let a = c .before .before .before .before .before .args in
-    let l = c .before .before .before .loop in
-    let x = getD (l .working) (a .row * a .n + l .column) (pos 0) in
-    let ok = allows-yes (a .n) (a .mask .now) (a .row) (l .column) (omega arith) in
-    let no-ok = allows-no (a .n) (a .mask .now) (a .row) (l .column) (omega arith) in (
-      search needs,
-      search needs,
-      cases (c .if1 .came)
-          (λ w. rw (w .4) (row-store _ _ _ _ _ _ _ _ (omega arith) (omega arith)
-          (back64 (w .3 .result) (w .3 .ok) ∙ w .3 .ensures ∙ rw (back64 x (w .2 .given), w .1 .ensures, ok (w .0 .taken))) (l .inv .2)))
-          (λ w. rw (w .1) (row-keep _ _ _ _ _ _ _ (omega arith) (rw (no-ok (w .0 .left))) (l .inv .2))),
+    let t = c .before .before .before in
+    let s = t .before .before .before .before .before in
+    let a = s .args in
+    let m = met t in
+    let j = t .lowest-line .result in
+    let x = getD (t .before .before .loop .working) (a .row * a .n + j) (pos 0) in
+    let h = m .below in
+    let f = t .before .before .loop .inv .0 in
+    let ok = allows-yes (a .n) (a .mask .now) (a .row) j (omega arith) in
+    let no-ok = allows-no (a .n) (a .mask .now) (a .row) j (omega arith) in
+    let g : ℕ → ℤ → ℤ = λ k w. cond (allows (a .n) (a .mask .now) (a .row) k) (follow (toZ w64 (ofZ w64 (a .change))) (a .covered) (has (a .columns) k) w) w in (
+      f,
+      m .on _ _ (c .without-lowest .ensures)
+          (cases (c .before .if1 .came)
+          (λ w. rw (w .3) (row-store _ _ _ g _ _ j _ h (omega arith)
+          (back64 (w .2 .result) (w .2 .ok) ∙ w .2 .ensures ∙ rw (back64 x (w .1 .given), alike (a .n) (a .columns) (a .covered) j h (m .member), ok (w .0 .taken))) (m .kept)))
+          (λ w. rw (w .1) (row-keep _ _ _ g _ _ j h (rw (no-ok (w .0 .left))) (m .kept))))
+          (others (a .n) (a .mask .now) (a .columns) (a .row) (a .covered) (ofZ w64 (a .change)) _ _),
     )
 
 same-length : tie.Need-same-length Inv-loop μ-loop
@@ -91,8 +139,9 @@ same-length c = search needs
 
 returns : tie.Need-returns Inv-loop μ-loop
 returns c =
-    let s = c .before .before .before in
-    rw (toZ-ofZ (s .fits .change)) at (row-all _ _ _ _ _ _ _ (s .pre .2) (omega arith) (c .before .loop .inv .2))
+    let s = c .before .before .before .before in
+    let done = walk-end (c .loop-test .left) (c .before .loop .inv .1) in
+    rw (toZ-ofZ (s .fits .change)) at (row-all _ _ _ _ _ _ _ (s .pre .2) (omega arith) done)
 
 pub follow-row-spec : {M : Type 1} → statement M
 follow-row-spec =
@@ -101,16 +150,17 @@ follow-row-spec =
     Inv-loop
     μ-loop
     mul-start
+    lines-alike-requires
     loop-holds
+    lowest-line-requires
     add-place
     shared-slice-read-if1
-    is-covered-requires
     mul-followed-value
     slice-copy-out-followed-value
     followed-value-requires
     mul-t19
     slice-set-from-working
-    add-column
+    without-lowest-requires
     loop-less
     loop-again
     same-length
