@@ -2,15 +2,17 @@
 use mathlib.Core.Path.{_≡_, refl, sym, _∙_}
 use mathlib.Core.Bool.{Bool, true, false, not, _&&_, and-true, and-false}
 use mathlib.Core.List.{List}
-use Prim.Native.Nat.{ℕ, suc, _-_, _^_, _≤_, _<_}
+use Prim.Native.Nat.{ℕ, suc, _+_, _-_, _%_, _^_, _≤_, _<_}
 use native.Mathlib.Omega.{arith}
-use borrow.Author.Tests.{ne-eqb, lt-ltb, le-ltb}
+use borrow.Author.Tests.{eqb-true, eqb-false, ne-eqb, lt-ltb, le-ltb}
+use lib.Bits.{bitOr, or-zero-r, or-add-and, and-le-l}
 use lib.Dec.{eqb, ltb}
 use lib.IntN.{ℤ, pos, negsuc}
 use mir.Syntax.{w64}
 use mir.Val.{SFits, ofZ}
 use Rattle.lines.specs.First.{first}
 use Rattle.lines.specs.Sets.{has}
+use Rattle.lines.proofs.Tests.{by-cases}
 use Rattle.lines.proofs.Firsts.{first-ext, first-none}
 use Rattle.lines.proofs.Loops.{Missed, missed-hit, missed-all}
 use Rattle.steps.specs.Steps.{is-zero, zero-at, uncovered, zero-in-column, zero-column}
@@ -22,6 +24,18 @@ pub zero-bits : (z : ℤ) → SFits w64 z → eqb (ofZ w64 z) 0 ≡ is-zero z
 unfolding is-zero
 zero-bits (pos n) f = refl
 zero-bits (negsuc n) f = let h = f .sfits in ne-eqb (2 ^ 64 - suc n) 0 (λ e. omega arith)
+
+-- a cell's value and what its mask byte adds, joined: 0 for a zero of an allowed cell alone
+pub zero-test : (z : ℤ) (byte : ℕ) → SFits w64 z → byte < 256 → eqb (bitOr (ofZ w64 z) ((byte + 255) % 256)) 0 ≡ (eqb byte 1 && is-zero z)
+zero-test z byte f h =
+    by-cases (eqb byte 1)
+    (λ y.
+    let e : (byte + 255) % 256 ≡ 0 = omega (arith, eqb-true byte 1 y) in
+    rw (y, e, or-zero-r) (zero-bits z f))
+    (λ y.
+    let b : ℕ = (byte + 255) % 256 in
+    let ne = eqb-false byte 1 y in
+    rw y (ne-eqb (bitOr (ofZ w64 z) b) 0 (λ e. omega (arith, or-add-and (ofZ w64 z) b, and-le-l (ofZ w64 z) b))))
 
 module _ (n : ℕ) (ok : ℕ → ℕ → Bool) (working : List ℤ) (rows columns : ℕ) where
   -- in an uncovered column the rows alone matter, and in a covered one there is nothing

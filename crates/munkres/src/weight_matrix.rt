@@ -35,15 +35,19 @@ fn lesser(least: Least, value: i64) -> Least
     }
 }
 
-// An allowed cell with working value 0.
+// 0 for the mask byte of an allowed cell, and more for any other.
+fn blocked(byte: u8) -> i64
+    ensures { λ r. ⌜ r ≡ pos ((byte + 255) % 256) ⌝ }
+{
+    ((byte as u64 + 255) % 256) as i64
+}
+
+// An allowed cell with working value 0: one test, as a forbidden cell's value is 0 as well and a test of the value alone is seldom foretold.
 pub(crate) fn is_element_zero(mask: &[u8], working: &[i64], place: usize) -> bool
     requires { ⌜ (place < length (now mask)) × (place < length (now working)) ⌝ }
     ensures { λ r. ⌜ r ≡ (eqb (getD (now (mask .entry)) place 1) 1 && is-zero (getD (now (working .entry)) place (pos 0))) ⌝ }
 {
-    if working[place] != 0 {
-        return false;
-    }
-    mask[place] == 1
+    (working[place] | blocked(mask[place])) == 0
 }
 
 // ---- step 1
