@@ -1,14 +1,15 @@
 -- What the functions around the run need: what an end gives back, and the verdict.
 use mathlib.Core.Path.{_≡_, refl, sym, ap, subst, _∙_}
-use mathlib.Core.Logic.{_≢_}
+use mathlib.Core.Logic.{_≢_, dite}
 use mathlib.Core.Bool.{Bool, true, false, not, cond, _&&_, true≢false}
 use mathlib.Core.List.{List}
 use mathlib.Core.Option.{some}
 use Prim.Native.Nat.{ℕ, _+_, _*_, _≤_, _<_}
+use native.Mathlib.Decide.{decLt}
 use native.Mathlib.Omega.{arith}
 use lib.Dec.{T, not-T, ltb, ltb→lt, lt→ltb, eqb, eqb→eq}
 use lib.IntN.{ℤ, pos}
-use lib.ListN.{length, length-replicate}
+use lib.ListN.{length, length-replicate, List·getD-eq-default}
 use Rattle.lines.specs.First.{any, first}
 use Rattle.lines.specs.Sets.{rest, with, all}
 use Rattle.lines.specs.Square.{cell, table}
@@ -36,8 +37,9 @@ use Rattle.munkres.specs.declared.Next.the-variants.{Step3, Step4, Step5
 use Rattle.munkres.specs.declared.Verdict.{Verdict}
 use Rattle.munkres.specs.declared.Verdict.the-variants.{Dead}
 use Rattle.munkres.specs.View.{view-next, view-verdict, task, buffers, lent}
-use Rattle.munkres.specs.Square.{Square}
+use Rattle.munkres.specs.Square.{Square, Flags}
 use Rattle.munkres.specs.Good.{Startable, Given, Good, Came}
+use Rattle.munkres.proofs.Masks.{mask-flag}
 
 -- ---- what an end gives back
 
@@ -170,6 +172,11 @@ module _ (n : ℕ) (costs : List ℤ) (mask : List ℕ) (budget : ℕ) (b : Buff
   within : (i j : ℕ) → i < n → j < n → T (allows n mask i j) → Within 1_000_000_000 (cost-at n costs i j)
   within = cost-within 64 t b fit
 
+  flagged : Flags mask
+  flagged q = dite (decLt q (n * n))
+      (λ h. mask-flag mask q (omega (arith, sizes .mask)) (fit .fit .masks q h))
+      (λ h. rw (List·getD-eq-default mask 0 {n = q} (omega (arith, sizes .mask))) (omega arith))
+
   pub good-start : {m : Machine} → m ≡ start n (allows n mask) (cost-at n costs) → Good n mask budget m
   unfolding start
   good-start e =
@@ -177,6 +184,7 @@ module _ (n : ℕ) (costs : List ℤ) (mask : List ℕ) (budget : ℕ) (b : Buff
         some = fit .fit .some;
         small = fit .fit .most;
         masked = sizes .mask;
+        flags = flagged;
         spare = omega arith;
         cost = cost-at n costs;
         rows = fit .rows;

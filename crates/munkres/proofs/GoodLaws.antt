@@ -50,6 +50,7 @@ module _ {n : ℕ} {mask : List ℕ} {budget : ℕ} {m : Machine} (g : Good n ma
     some = g .some;
     small = g .small;
     masked = g .masked;
+    flags = g .flags;
     spare = within n ok budget m (g .spare);
     cost = g .cost;
     rows = g .rows;

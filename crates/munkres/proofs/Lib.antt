@@ -1,4 +1,5 @@
 pub mod Masks
+pub mod Flags
 pub mod Zeros
 pub mod Values
 pub mod Wide

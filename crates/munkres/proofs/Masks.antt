@@ -1,10 +1,10 @@
 -- What a mask byte that the code reads says of its cell. Past the end the code's reading is 0, and the definitions' is 1.
 use mathlib.Core.Path.{_≡_}
-use mathlib.Core.Bool.{true, false, and-false}
+use mathlib.Core.Bool.{true, false, not, and-false}
 use mathlib.Core.List.{List}
 use Prim.Native.Nat.{ℕ, _+_, _*_, _≤_, _<_}
 use borrow.Author.Tests.{eq-eqb, ne-eqb, lt-ltb, le-ltb}
-use lib.Dec.{eqb}
+use lib.Dec.{T, eqb, nltb→le}
 use lib.IntN.{ℤ, pos}
 use lib.ListN.{length, getD}
 use Rattle.lines.proofs.Squares.{getD-inside}
@@ -25,6 +25,10 @@ module _ (mask : List ℕ) (q : ℕ) (h : q < length mask) where
   unfolding bad-mask
   mask-bad l = rw byte (lt-ltb 1 _ l)
 
+  pub mask-flag : T (not (bad-mask mask q)) → getD mask q 0 ≤ 1
+  unfolding bad-mask
+  mask-flag t = rw byte at (nltb→le 1 (getD mask q 1) t)
+
   pub mask-good : getD mask q 0 ≤ 1 → bad-mask mask q ≡ false
   unfolding bad-mask
   mask-good l = rw byte (le-ltb 1 _ l)
@@ -42,6 +46,10 @@ unfolding bad-cost
 cost-good costs mask q b = rw (b, and-false)
 
 module _ (n : ℕ) (mask : List ℕ) (i j : ℕ) (h : i * n + j < length mask) where
+  pub allows-is : allows n mask i j ≡ eqb (getD mask (i * n + j) 0) 1
+  unfolding allows
+  allows-is = rw (byte mask (i * n + j) h)
+
   pub allows-yes : getD mask (i * n + j) 0 ≡ 1 → allows n mask i j ≡ true
   unfolding allows
   allows-yes = one mask (i * n + j) h

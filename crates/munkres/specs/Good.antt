@@ -21,7 +21,7 @@ use Rattle.steps.specs.Outcome.{answer}
 use Rattle.steps.proofs.Runs.{over}
 use Rattle.steps.proofs.Fresh.{Fresh}
 use Rattle.steps.proofs.Limited.{Limited}
-use Rattle.munkres.specs.Square.{Fit64}
+use Rattle.munkres.specs.Square.{Flags, Fit64}
 
 -- a star is the first of its row, so its only one
 abbrev pub OneStarARow : ℕ → List ℕ → Type 0
@@ -54,6 +54,7 @@ pub record Good (n : ℕ) (mask : List ℕ) (budget : ℕ) (m : Machine) : Type 
   pub some : 0 < n
   pub small : n ≤ 64
   pub masked : length mask ≡ n * n
+  pub flags : Flags mask
   pub spare : m .run .adjustments ≤ budget
   pub cost : ℕ → ℕ → ℤ
   pub rows : (i : ℕ) → i < n → T (any (allows n mask i) n)

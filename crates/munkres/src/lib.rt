@@ -16,7 +16,7 @@ ghost use Rattle.lines.proofs.Signed.{Within};
 ghost use Rattle.steps.specs.Outcome.{Outcome, no-run, answer as Outcome·answer};
 ghost use Rattle.steps.specs.Promise.{Promise};
 ghost use Rattle.steps.proofs.Runs.{over};
-ghost use Rattle.munkres.specs.Square.{Square, Fit64};
+ghost use Rattle.munkres.specs.Square.{Square, Flags, Fit64};
 ghost use Rattle.steps.proofs.Path.{Ends};
 ghost use Rattle.munkres.specs.View.{view, view-next, view-verdict, task, buffers, lent};
 ghost use Rattle.munkres.specs.Good.{OneStarARow, Adjusts, Startable, Given, Good, Came};
@@ -201,7 +201,7 @@ fn step_6(
     column_prices: &mut [i64],
 ) -> Run
     requires { ⌜ Square n (now mask) × Square n (now working) × (length (now «row_prices») ≡ n) × (length (now «column_prices») ≡ n) × (run .adjustments ≤ budget)
-        × Adjusts n (allows n (now mask)) budget (view run) (now working) (now «row_prices») (now «column_prices») × (1 ≤ n) ⌝ }
+        × Adjusts n (allows n (now mask)) budget (view run) (now working) (now «row_prices») (now «column_prices») × (1 ≤ n) × Flags (now mask) ⌝ }
     ensures { λ r. ⌜ (view r, now (working .exit), now («row_prices» .exit), now («column_prices» .exit))
         ≡ step6 n (allows n (now (mask .entry))) budget (view run) (now (working .entry)) (now («row_prices» .entry)) (now («column_prices» .entry)) ⌝ }
 {

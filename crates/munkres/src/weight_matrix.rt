@@ -13,7 +13,7 @@ ghost use Rattle.lines.specs.Sets.{has};
 ghost use Rattle.lines.proofs.Signed.{Within};
 ghost use Rattle.steps.specs.Lent.{allows, cost-at};
 ghost use Rattle.steps.specs.Steps.{is-zero, row-price, excess, uncovered, follow, followed, lowered, raised};
-ghost use Rattle.munkres.specs.Square.{Square, Fit64};
+ghost use Rattle.munkres.specs.Square.{Square, Flags, Fit64};
 ghost use Rattle.munkres.specs.Least.{lesser-of, least-from};
 use crate::coverage;
 
@@ -179,7 +179,7 @@ fn followed_value(change: i64, row: bool, column: bool, value: i64) -> i64
     }
 }
 
-// In a covered row the covered columns' values change, and in another one the uncovered columns'.
+// In a covered row the covered columns' values change, and in another one the uncovered columns'; a forbidden cell's changes by 0.
 fn follow_row(
     n: usize,
     mask: &[u8],
@@ -190,16 +190,15 @@ fn follow_row(
     working: &mut [i64],
 )
     requires { ⌜ Square n (now mask) × Square n (now working) × (row < n) × SFits w64 change
-        × ((j : ℕ) → j < n → T (allows n (now mask) row j) → SFits w64 (follow change covered (has columns j) (getD (now working) (row * n + j) (pos 0)))) ⌝ }
+        × ((j : ℕ) → j < n → T (allows n (now mask) row j) → SFits w64 (follow change covered (has columns j) (getD (now working) (row * n + j) (pos 0)))) × Flags (now mask) ⌝ }
     ensures { λ _. ⌜ now (working .exit) ≡ each-row n row (λ j w. cond (allows n (now (mask .entry)) row j) (follow change covered (has columns j) w) w) (now (working .entry)) ⌝ }
 {
     let start = row * n;
     let mut left = coverage::lines_alike(n, columns, covered);
     while left != 0 {
         let place = start + coverage::lowest_line(left);
-        if mask[place] == 1 {
-            working[place] = followed_value(change, covered, covered, working[place]);
-        }
+        let amount = change * mask[place] as i64;
+        working[place] = followed_value(amount, covered, covered, working[place]);
         left = coverage::without_lowest(left);
     }
 }
@@ -212,7 +211,7 @@ pub(crate) fn follow_prices(
     change: i64,
     working: &mut [i64],
 )
-    requires { ⌜ Square n (now mask) × Square n (now working) × SFits w64 change × Fit64 (followed n (allows n (now mask)) change rows columns (now working)) ⌝ }
+    requires { ⌜ Square n (now mask) × Square n (now working) × SFits w64 change × Fit64 (followed n (allows n (now mask)) change rows columns (now working)) × Flags (now mask) ⌝ }
     ensures { λ _. ⌜ now (working .exit) ≡ followed n (allows n (now (mask .entry))) change rows columns (now (working .entry)) ⌝ }
 {
     let mut row = 0;

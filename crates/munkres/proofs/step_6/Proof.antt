@@ -36,7 +36,7 @@ follow-prices-requires c κs =
     (sym (c .before .before .before .before .before .least-uncovered .ensures) ∙ c .before .before .before .least .given .1) in
     let a = s .pre .5 (c .before .if1 .left) (v .0) in
     let e = back _ _ (v .1) (a .0) in
-    (s .pre .0, s .pre .1, rw e (a .0), rw e (a .1))
+    (s .pre .0, s .pre .1, rw e (a .0), rw e (a .1), s .pre .7)
 
 lower-prices-requires : tie.Need-lower-prices-requires
 unfolding lowest

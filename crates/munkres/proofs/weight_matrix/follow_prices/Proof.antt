@@ -46,6 +46,7 @@ follow-row-requires c κs =
           (rw (T-true (allows (a .n) (a .mask .now) (l .row) j) t) at
           (square-fits (a .n) (λ i j w. cond (allows (a .n) (a .mask .now) i j) (follow (a .change) (has (a .rows) i) (has (a .columns) j) w) w) (a .working .now)
           (s .pre .1 .size) (s .pre .3) (l .row) j (omega arith) h)),
+      s .pre .4,
     )
 
 add-row : tie.Need-add-row Inv-loop μ-loop

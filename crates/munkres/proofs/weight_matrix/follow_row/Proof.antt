@@ -3,21 +3,22 @@ use borrow.Author.Needs.{needs}
 use mathlib.Core.Path.{_≡_, refl, _∙_}
 use mathlib.Core.Bool.{Bool, true, false, not, cond}
 use mathlib.Core.List.{List}
-use Prim.Native.Nat.{ℕ, _+_, _*_, _%_, _^_}
+use Prim.Native.Nat.{ℕ, _+_, _*_, _%_, _^_, _≤_}
 use native.Mathlib.Omega.{arith}
 use lib.IntN.{ℤ, pos}
 use lib.ListN.{getD}
 use mir.Syntax.{w64}
-use mir.Val.{toZ, ofZ}
+use mir.Val.{SFits, toZ, ofZ}
 use mir.Facts.{toZ-ofZ}
 use Rattle.lines.specs.Sets.{has, rest}
-use Rattle.lines.proofs.Tests.{cases}
+use Rattle.lines.proofs.Tests.{cond-ind}
 use Rattle.lines.proofs.Rows.{RowPassed, row-none, row-store, row-keep, row-next, row-all}
 use Rattle.lines.proofs.Walks.{Walk, Passes, Met, walk-begin, walk-meets, walk-end, alike-lt, alike, unlike}
 use Rattle.steps.specs.Lent.{allows}
 use Rattle.steps.specs.Steps.{follow}
 use Rattle.lines.proofs.Bounds.{RowFits, row-fits}
-use Rattle.munkres.proofs.Masks.{allows-yes, allows-no}
+use Rattle.munkres.proofs.Masks.{allows-is}
+use Rattle.munkres.proofs.Flags.{product-fits, product-is, follow-flag}
 use Rattle.munkres.proofs.Wide.{back64}
 use Rattle.munkres.proofs.weight_matrix.follow_row.Statement.{statement}
 use Rattle.munkres.proofs.weight_matrix.follow_row.Tie as tie
@@ -74,63 +75,81 @@ met c =
     let l = c .before .before in
     walk-meets 64 (l .before .before .before .pre .0 .small) (c .before .loop-test .taken) (c .lowest-line .ensures) (l .loop .inv .1)
 
+-- the mask byte of the cell is 0 or 1
+flag : (c : tie.After-lowest-line Inv-loop μ-loop) → let a = c .before .before .before .before .before .args in getD (a .mask .now) (a .row * a .n + c .lowest-line .result) 0 ≤ 1
+flag c = c .before .before .before .before .before .pre .5 _
+
 add-place : tie.Need-add-place Inv-loop μ-loop
 add-place c = let h = met c .below in search needs
 
-shared-slice-read-if1 : tie.Need-shared-slice-read-if1 Inv-loop μ-loop
-shared-slice-read-if1 c = let h = met (c .before) .below in search needs
+shared-slice-read-amount : tie.Need-shared-slice-read-amount Inv-loop μ-loop
+shared-slice-read-amount c = let h = met (c .before) .below in search needs
+
+cast-amount : tie.Need-cast-amount Inv-loop μ-loop
+cast-amount c = record { sfits = omega (arith, flag (c .before)) }
+
+mul-amount : tie.Need-mul-amount Inv-loop μ-loop
+mul-amount c = let s = c .before .before .before .before .before .before in product-fits (s .args .change) (s .fits .change) _ (flag (c .before))
 
 mul-followed-value : tie.Need-mul-followed-value Inv-loop μ-loop
-mul-followed-value c = let h = met (c .before .before) .below in search needs
+mul-followed-value c = let h = met (c .before) .below in search needs
 
 slice-copy-out-followed-value : tie.Need-slice-copy-out-followed-value Inv-loop μ-loop
-slice-copy-out-followed-value c = let h = met (c .before .before) .below in search needs
+slice-copy-out-followed-value c = let h = met (c .before) .below in search needs
 
 followed-value-requires : tie.Need-followed-value-requires Inv-loop μ-loop
 followed-value-requires c κs =
-    let t = c .before .before .before in
+    let t = c .before .before in
     let s = t .before .before .before .before .before in
     let a = s .args in
     let m = met t in
     let j = t .lowest-line .result in
-    let x = getD (t .before .before .loop .working) (a .row * a .n + j) (pos 0) in
     let h = m .below in
     let f = t .before .before .loop .inv .0 in
-    let ok = allows-yes (a .n) (a .mask .now) (a .row) j (omega arith) (c .before .if1 .taken) in
-    rw (toZ-ofZ (s .fits .change), back64 x (c .followed-value-arg .given), row-next _ _ _ _ _ _ _ (m .kept))
-    (rw (alike (a .n) (a .columns) (a .covered) j h (m .member)) at (s .pre .4 j h (rw ok tt)))
+    let x = getD (t .before .before .loop .working) (a .row * a .n + j) (pos 0) in
+    let ok = allows-is (a .n) (a .mask .now) (a .row) j (omega arith) in
+    rw (product-is (a .change) (s .fits .change) _ (flag t), back64 x (c .followed-value-arg .given), follow-flag, ← ok)
+    (cond-ind (SFits w64) (allows (a .n) (a .mask .now) (a .row) j) (follow (a .change) (a .covered) (a .covered) x) x
+    (λ y. rw (row-next _ _ _ _ _ _ _ (m .kept)) (rw (alike (a .n) (a .columns) (a .covered) j h (m .member)) at (s .pre .4 j h y)))
+    (λ y. record { sfits = c .followed-value-arg .given }))
 
 mul-t19 : tie.Need-mul-t19 Inv-loop μ-loop
-mul-t19 c = let h = met (c .before .before .before .before) .below in search needs
+mul-t19 c = let h = met (c .before .before .before) .below in search needs
 
 slice-set-from-working : tie.Need-slice-set-from-working Inv-loop μ-loop
-slice-set-from-working c = let h = met (c .before .before .before .before) .below in search needs
+slice-set-from-working c = let h = met (c .before .before .before) .below in search needs
 
 without-lowest-requires : tie.Need-without-lowest-requires Inv-loop μ-loop
 without-lowest-requires c κs = search needs
 
 loop-less : tie.Need-loop-less Inv-loop μ-loop
-loop-less c = met (c .before .before .before) .less _ (c .without-lowest .ensures)
+loop-less c = met (c .before .before .before .before) .less _ (c .without-lowest .ensures)
 
 loop-again : tie.Need-loop-again Inv-loop μ-loop
 loop-again c =
-    let t = c .before .before .before in
+    let t = c .before .before .before .before in
     let s = t .before .before .before .before .before in
     let a = s .args in
     let m = met t in
     let j = t .lowest-line .result in
-    let x = getD (t .before .before .loop .working) (a .row * a .n + j) (pos 0) in
     let h = m .below in
     let f = t .before .before .loop .inv .0 in
-    let ok = allows-yes (a .n) (a .mask .now) (a .row) j (omega arith) in
-    let no-ok = allows-no (a .n) (a .mask .now) (a .row) j (omega arith) in
-    let g : ℕ → ℤ → ℤ = λ k w. cond (allows (a .n) (a .mask .now) (a .row) k) (follow (toZ w64 (ofZ w64 (a .change))) (a .covered) (has (a .columns) k) w) w in (
+    let x = getD (t .before .before .loop .working) (a .row * a .n + j) (pos 0) in
+    let r = c .before .followed-value in
+    let e = toZ-ofZ (s .fits .change) in (
       f,
       m .on _ _ (c .without-lowest .ensures)
-          (cases (c .before .if1 .came)
-          (λ w. rw (w .3) (row-store _ _ _ g _ _ j _ h (omega arith)
-          (back64 (w .2 .result) (w .2 .ok) ∙ w .2 .ensures ∙ rw (back64 x (w .1 .given), alike (a .n) (a .columns) (a .covered) j h (m .member), ok (w .0 .taken))) (m .kept)))
-          (λ w. rw (w .1) (row-keep _ _ _ g _ _ j h (rw (no-ok (w .0 .left))) (m .kept))))
+          (row-store _ _ _ _ _ _ j _ h (omega arith)
+          (back64 (r .result) (r .ok) ∙ r .ensures
+          ∙ rw (
+            product-is (a .change) (s .fits .change) _ (flag t),
+            back64 x (c .before .before .followed-value-arg .given),
+            follow-flag,
+            ← allows-is (a .n) (a .mask .now) (a .row) j (omega arith),
+            alike (a .n) (a .columns) (a .covered) j h (m .member),
+            e,
+          ))
+          (m .kept))
           (others (a .n) (a .mask .now) (a .columns) (a .row) (a .covered) (ofZ w64 (a .change)) _ _),
     )
 
@@ -154,7 +173,9 @@ follow-row-spec =
     loop-holds
     lowest-line-requires
     add-place
-    shared-slice-read-if1
+    shared-slice-read-amount
+    cast-amount
+    mul-amount
     mul-followed-value
     slice-copy-out-followed-value
     followed-value-requires
