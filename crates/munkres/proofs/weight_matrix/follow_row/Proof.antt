@@ -61,7 +61,9 @@ loop-holds c =
     let s = c .before .before in
     let a = s .args in (
       row-fits _ _ (s .pre .0 .small) (s .pre .2),
-      rw (c .lines-alike .ensures) (walk-begin (alike-lt (a .n) (a .columns) (a .covered)) (row-none _ _ _ _ _ (s .pre .2)) (others (a .n) (a .mask .now) (a .columns) (a .row) (a .covered) (ofZ w64 (a .change)) _ _)),
+      rw (c .lines-alike .ensures)
+          (walk-begin (alike-lt (a .n) (a .columns) (a .covered)) (row-none _ _ _ _ _ (s .pre .2))
+          (others (a .n) (a .mask .now) (a .columns) (a .row) (a .covered) (ofZ w64 (a .change)) _ _)),
     )
 
 lowest-line-requires : tie.Need-lowest-line-requires Inv-loop μ-loop
@@ -69,14 +71,16 @@ lowest-line-requires c κs = tt
 
 met : (c : tie.After-lowest-line Inv-loop μ-loop) → let a = c .before .before .before .before .before .args in
     let l = c .before .before .loop in
-    Met 64 (a .n) (Alike (a .n) (a .columns) (a .covered)) (Kept (a .n) (a .mask .now) (a .columns) (a .row) (a .covered) (ofZ w64 (a .change)) (a .working .now) (l .working))
+    Met 64 (a .n) (Alike (a .n) (a .columns) (a .covered))
+    (Kept (a .n) (a .mask .now) (a .columns) (a .row) (a .covered) (ofZ w64 (a .change)) (a .working .now) (l .working))
     (l .left) (c .lowest-line .result)
 met c =
     let l = c .before .before in
     walk-meets 64 (l .before .before .before .pre .0 .small) (c .before .loop-test .taken) (c .lowest-line .ensures) (l .loop .inv .1)
 
 -- the mask byte of the cell is 0 or 1
-flag : (c : tie.After-lowest-line Inv-loop μ-loop) → let a = c .before .before .before .before .before .args in getD (a .mask .now) (a .row * a .n + c .lowest-line .result) 0 ≤ 1
+flag : (c : tie.After-lowest-line Inv-loop μ-loop) → let a = c .before .before .before .before .before .args in
+    getD (a .mask .now) (a .row * a .n + c .lowest-line .result) 0 ≤ 1
 flag c = c .before .before .before .before .before .pre .5 _
 
 add-place : tie.Need-add-place Inv-loop μ-loop
