@@ -10,6 +10,7 @@ use native.Mathlib.Omega.{arith}
 use lib.Dec.{T, not-T, ltb, ltb→lt, lt→ltb, eqb, eqb→eq}
 use lib.IntN.{ℤ, pos}
 use lib.ListN.{length, length-replicate, List·getD-eq-default}
+use borrow.Author.Tests.{le-ltb, lt-ltb}
 use Rattle.lines.specs.First.{any, first}
 use Rattle.lines.specs.Sets.{rest, with, all}
 use Rattle.lines.specs.Square.{cell, table}
@@ -58,12 +59,6 @@ module _ (n : ℕ) (costs : List ℤ) (r : Run) (marks before : List ℕ) where
   given-there a e g = subst (λ x. Given n costs r marks before (view-next x) a before) (sym e) g
 
 -- ---- the verdict, refusal by refusal
-
-le-ltb : (m n : ℕ) → n ≤ m → ltb m n ≡ false
-le-ltb m n h = T-false (ltb m n) (not-T (ltb m n) (λ t. omega (arith, ltb→lt m n t)))
-
-lt-ltb : (m n : ℕ) → m < n → ltb m n ≡ true
-lt-ltb m n h = T-true (ltb m n) (lt→ltb m n h)
 
 module _ (t : Task) (b : Buffers) where
   pub verdict-1 : t .n ≡ 0 → R.refused 1 0 ≡ R.verdict t 64 b

@@ -6,7 +6,7 @@ use mathlib.Core.List.{List}
 use mathlib.Core.Option.{Option, none, some}
 use Prim.Native.Nat.{ℕ, zero, suc, _+_, _-_, _*_, _/_, _%_, _≤_, _<_}
 use native.Mathlib.Omega.{arith}
-use lib.Dec.{T, eqb, eqb→eq, ltb, nltb→le}
+use lib.Dec.{T, T-not, eqb, eqb→eq, ltb, nltb→le}
 use lib.IntN.{ℤ, pos, negsuc}
 use lib.Signed.{ltZ, _≤ℤ_}
 use lib.ListN.{length, getD}
@@ -43,12 +43,8 @@ Passed (R.refused number place) = ⊥
 Passed (R.dead row) = Unit {0}
 Passed R.accepted = Unit {0}
 
-neither : (b : Bool) → T b → T (not b) → ⊥
-neither true y n = n
-neither false y n = y
-
 none-of : (b : ℕ → Bool) (n : ℕ) → ((q : ℕ) → q < n → T (not (b q))) → T (any b n) → ⊥
-none-of b n f z = let q = any-is b n z in neither (b (q .0)) (q .2) (f (q .0) (q .1))
+none-of b n f z = let q = any-is b n z in T-not (b (q .0)) (f (q .0) (q .1)) (q .2)
 
 module _ (t : Task) (before : Buffers) (fit : Fit 64 t before) where
   passed : Passed (R.verdict t 64 before)
@@ -56,8 +52,8 @@ module _ (t : Task) (before : Buffers) (fit : Fit 64 t before) where
   passed =
       let cells = t .n * t .n in
       cond-ind Passed (eqb (t .n) 0) (R.refused 1 0) _ (λ z. let e = eqb→eq (t .n) 0 z in omega (arith, fit .some))
-      (λ u. cond-ind Passed (ltb 64 (t .n)) (R.refused 2 0) _ (λ z. neither (ltb 64 (t .n)) z (rw (le-ltb 64 (t .n) (fit .most)) tt))
-      (λ u. cond-ind Passed (not (R.lengths t before)) (R.refused 3 0) _ (λ z. neither (R.lengths t before) (fit .sizes) z)
+      (λ u. cond-ind Passed (ltb 64 (t .n)) (R.refused 2 0) _ (λ z. T-not (ltb 64 (t .n)) (rw (le-ltb 64 (t .n) (fit .most)) tt) z)
+      (λ u. cond-ind Passed (not (R.lengths t before)) (R.refused 3 0) _ (λ z. T-not (R.lengths t before) z (fit .sizes))
       (λ u. cond-ind Passed (any (R.bad-mask (t .mask)) cells) (R.refused 4 _) _ (none-of _ cells (fit .masks))
       (λ u. cond-ind Passed (any (R.bad-cost (t .costs) (t .mask)) cells) (R.refused 5 _) _ (none-of _ cells (fit .costs))
       (λ u. cond-ind Passed (any (R.dead-row (t .n) (t .mask)) (t .n)) (R.dead _) R.accepted (λ z. tt) (λ z. tt))))))

@@ -3,7 +3,6 @@ use mathlib.Core.Path.{_≡_, sym, ap, _∙_}
 use mathlib.Core.Logic.{_≢_}
 use mathlib.Core.List.{List, _++_}
 use Prim.Native.Nat.{ℕ, _+_, _*_, _≤_, _<_}
-use native.Mathlib.Nat.{mul-le-mul}
 use native.Mathlib.Omega.{arith}
 use lib.IntN.{ℤ}
 use lib.ListN.{length, getD, take, drop}
@@ -19,6 +18,7 @@ use Rattle.storm_case.specs.Records.{u16-at}
 use Rattle.storm_case.specs.Scan as D
 use Rattle.storm_case.specs.View.{view-scan, view-judged, Ready, Says}
 use Rattle.storm_case.specs.Case.{hut-of, pair-cost, mask-byte, filled, case, case-of, read, hut-in, hut}
+use Rattle.storm_case.proofs.Fronts.{cells-fit, front-long}
 use Rattle.storm_case.proofs.ScanLaws.{accepted-filled}
 
 -- ---- the verdict of the code's scan
@@ -37,16 +37,16 @@ module _ (file : List ℕ) {s : Scan} {fragments events : List ℕ} (says : Says
       )
 
   -- a square of n rows has its room in the front of a buffer
-  pub cells-fit : s .n * s .n ≤ 4096
-  cells-fit = mul-le-mul (says .ready .small) (says .ready .small)
+  pub cells-room : s .n * s .n ≤ 4096
+  cells-room = cells-fit (says .ready .small)
 
-  pub front-long : {A : Type 0} (xs : List A) → length xs ≡ 4096 → length (take (s .n * s .n) xs) ≡ s .n * s .n
-  front-long xs l = length-take-le (s .n * s .n) xs (omega (arith, cells-fit))
+  pub front-room : {A : Type 0} (xs : List A) → length xs ≡ 4096 → length (take (s .n * s .n) xs) ≡ s .n * s .n
+  front-room xs l = sym (front-long xs l cells-room)
 
   pub fill-asks : {A B : Type 0} (costs : List A) (mask : List B) → s .judged ≡ Accepted → length costs ≡ 4096 → length mask ≡ 4096
       → Ready file s fragments events × (s .fragments ≡ s .n) × (s .events ≡ s .n) × (length (take (s .n * s .n) costs) ≡ s .n * s .n)
       × (length (take (s .n * s .n) mask) ≡ s .n * s .n)
-  fill-asks costs mask e lc lm = let a = all-read e in (says .ready, a .0, a .1, front-long costs lc, front-long mask lm)
+  fill-asks costs mask e lc lm = let a = all-read e in (says .ready, a .0, a .1, front-room costs lc, front-room mask lm)
 
 -- ---- what the reader gives back
 

@@ -3,6 +3,7 @@ pub mod OneRecord
 pub mod ScanLaws
 pub mod SaysLaws
 pub mod CellLaws
+pub mod Fronts
 pub mod CaseLaws
 pub mod AboutLaws
 pub mod PairLaws

@@ -5,7 +5,7 @@ use mathlib.Core.List.{List, [], _∷_, _++_}
 use Prim.Native.Nat.{ℕ, zero, suc, _*_}
 use native.Mathlib.Omega.{arith}
 use lib.IntN.{ℤ}
-use lib.ListN.{take, drop}
+use lib.ListN.{take, drop, take-append-drop}
 use Rattle.lines.proofs.Tests.{by-cases}
 use Rattle.steps.specs.declared.Answer.{Answer}
 use Rattle.steps.specs.Lent.{Task, Buffers}
@@ -25,12 +25,7 @@ OnlyAnswer = (t : Task) (before : Buffers) (a a′ : Answer) (after after′ : B
 -- ---- buffers are their front and what lies behind it
 
 rejoined : {A : Type 0} (k : ℕ) (xs ys : List A) → take k xs ≡ take k ys → drop k xs ≡ drop k ys → xs ≡ ys
-rejoined k xs ys f b = sym (whole k xs) ∙ ap (λ l. l ++ drop k xs) f ∙ ap (λ l. take k ys ++ l) b ∙ whole k ys
-  where
-    whole : {A : Type 0} (k : ℕ) (xs : List A) → take k xs ++ drop k xs ≡ xs
-    whole zero xs = refl
-    whole (suc k) [] = refl
-    whole (suc k) (x ∷ xs) = ap (λ l. x ∷ l) (whole k xs)
+rejoined k xs ys f b = sym (take-append-drop k xs) ∙ ap (λ l. l ++ drop k xs) f ∙ ap (λ l. take k ys ++ l) b ∙ take-append-drop k ys
 
 same-buffers : (n : ℕ) (b c : Buffers) → front n b ≡ front n c → behind n b ≡ behind n c → b ≡ c
 unfolding front behind

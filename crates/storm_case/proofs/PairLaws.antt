@@ -1,4 +1,4 @@
--- Pairing a case: the room that it takes, the budget, the front of each buffer, and what is given back by the verdict.
+-- Pairing a case: the room that it takes, the budget, the solver's promise, and what is given back by the verdict.
 use mathlib.Core.Path.{_≡_, refl, sym, ap, subst, _∙_}
 use mathlib.Core.Logic.{_≢_}
 use mathlib.Core.Bool.{Bool, true, false, cond, _&&_}
@@ -9,7 +9,7 @@ use native.Mathlib.Omega.{arith}
 use lib.Dec.{T, eqb, eqb→eq}
 use lib.IntN.{ℤ}
 use lib.ListN.{length, take, drop}
-use lib.Seq.{length-take-le}
+use lib.Seq.{take-at, drop-at}
 use borrow.Author.Tests.{eq-eqb}
 use Rattle.lines.specs.Square.{square}
 use Rattle.lines.proofs.Squares.{length-square}
@@ -24,6 +24,7 @@ use Rattle.storm_case.specs.declared.pair.Pairs.{Pairs}
 use Rattle.storm_case.specs.Scan as D
 use Rattle.storm_case.specs.Case.{pair-cost, mask-byte, filled, case-of, read}
 use Rattle.storm_case.specs.Pair.{Room, room, fits, enough-room, front, behind, unpaired, paired, enough, SolvedBy, Solved, PairPromise}
+use Rattle.storm_case.proofs.Fronts.{cells-fit, front-long}
 use Rattle.storm_case.proofs.ScanLaws.{Filled, never-more, accepted-filled, refused-some}
 use Rattle.storm_case.proofs.AboutLaws.{of-file, about-file}
 
@@ -82,27 +83,8 @@ enough-none e = rw e
 pub budget-fits : {n : ℕ} → n ≤ 64 → n * (n - 1) ≤ 4032
 budget-fits {n} h = let l : n - 1 ≤ 63 = omega arith in mul-le-mul h l
 
-pub cells-fit : {n : ℕ} → n ≤ 64 → n * n ≤ 4096
-cells-fit h = mul-le-mul h h
+-- ---- the solver's promise on what was lent of each buffer
 
--- ---- the front of a buffer
-
-module _ {A : Type 0} where
-  -- what was written there is the front, and what lies behind it is untouched
-  pub front-is : (k : ℕ) (w xs : List A) → length w ≡ k → (take k (w ++ xs) ≡ w) × (drop k (w ++ xs) ≡ xs)
-  front-is zero [] xs e = (refl, refl)
-  front-is zero (x ∷ w) xs e = absurd (omega arith)
-  front-is (suc k) [] xs e = absurd (omega arith)
-  front-is (suc k) (x ∷ w) xs e = let r = front-is k w xs (omega arith) in (ap (λ l. x ∷ l) (r .0), r .1)
-
-  pub front-long : {k m : ℕ} (xs : List A) → length xs ≡ m → k ≤ m → k ≡ length (take k xs)
-  front-long {k} xs e h = sym (length-take-le k xs (omega arith))
-
-  -- as long as what was lent
-  pub as-long : {k l m : ℕ} (xs : List A) → length xs ≡ m → k ≤ m → l ≡ length (take k xs) → l ≡ k
-  as-long xs e h l = l ∙ sym (front-long xs e h)
-
--- the solver's promise on what was lent of each buffer
 module _ {n window budget : ℕ} {costs : List ℤ} {mask : List ℕ} {working : List ℤ} {marks columns : List ℕ} {row-prices column-prices : List ℤ} {a : Answer} {p : Pairs} where
   pub solved-front : {w : List ℤ} {m c : List ℕ} {r q : List ℤ}
       → length w ≡ n * n → length m ≡ n * n → length c ≡ n → length r ≡ n → length q ≡ n → budget ≡ enough n → p ≡ paired n window a
@@ -111,15 +93,10 @@ module _ {n window budget : ℕ} {costs : List ℤ} {mask : List ℕ} {working :
       (buffers (w ++ drop (n * n) working) (m ++ drop (n * n) marks) (c ++ drop n columns) (r ++ drop n row-prices) (q ++ drop n column-prices))
   unfolding front behind
   solved-front {w} {m} {c} {r} {q} ew em ec er eq eb ep promise =
-      let fw = front-is (n * n) w (drop (n * n) working) ew in
-      let fm = front-is (n * n) m (drop (n * n) marks) em in
-      let fc = front-is n c (drop n columns) ec in
-      let fr = front-is n r (drop n row-prices) er in
-      let fq = front-is n q (drop n column-prices) eq in
       record {
         answer = a;
-        solver = rw (fw .0, fm .0, fc .0, fr .0, fq .0) (rw eb at promise);
-        kept = rw (fw .1, fm .1, fc .1, fr .1, fq .1);
+        solver = rw (take-at w _ (n * n) ew, take-at m _ (n * n) em, take-at c _ n ec, take-at r _ n er, take-at q _ n eq) (rw eb at promise);
+        kept = rw (drop-at w _ (n * n) ew, drop-at m _ (n * n) em, drop-at c _ n ec, drop-at r _ n er, drop-at q _ n eq);
         given = ep;
       }
 
@@ -188,8 +165,8 @@ module _ (file : List ℕ) (costs costs′ : List ℤ) (mask mask′ : List ℕ)
           let k = s .n * s .n in
           let n : case .n ≡ s .n = ap (λ (c : Case). c .n) (case-is e) in
           let w : case .window ≡ s .window = ap (λ (c : Case). c .window) (case-is e) in
-          let c : take k costs′ ≡ square (pair-cost file s) (s .n) = ap (take k) (costs-are e) ∙ front-is k (square (pair-cost file s) (s .n)) _ (length-square _ (s .n)) .0 in
-          let m : take k mask′ ≡ square (mask-byte file s) (s .n) = ap (take k) (mask-is e) ∙ front-is k (square (mask-byte file s) (s .n)) _ (length-square _ (s .n)) .0 in
+          let c : take k costs′ ≡ square (pair-cost file s) (s .n) = ap (take k) (costs-are e) ∙ take-at (square (pair-cost file s) (s .n)) _ k (length-square _ (s .n)) in
+          let m : take k mask′ ≡ square (mask-byte file s) (s .n) = ap (take k) (mask-is e) ∙ take-at (square (mask-byte file s) (s .n)) _ k (length-square _ (s .n)) in
           rw (n, w, c, m) at by
 
       right : R.lengths (of-file file s) (front (s .n) rest) ≡ true

@@ -2,7 +2,7 @@
 use mathlib.Core.Path.{sym}
 use native.Mathlib.Omega.{arith}
 use borrow.Author.Needs.{needs}
-use Rattle.storm_case.proofs.CaseLaws.{cells-fit, front-long, fill-asks, no-cost-room, no-mask-room, read-more, read-refused, read-accepted}
+use Rattle.storm_case.proofs.CaseLaws.{cells-room, front-room, fill-asks, no-cost-room, no-mask-room, read-more, read-refused, read-accepted}
 use Rattle.storm_case.proofs.read_case.Statement.{statement}
 use Rattle.storm_case.proofs.read_case.Tie as tie
 
@@ -43,7 +43,7 @@ enum-told-2 : tie.Need-enum-told-2
 enum-told-2 c = search needs
 
 mul-cells : tie.Need-mul-cells
-mul-cells c = let f = cells-fit _ (c .before .before .before .before .judge-file .ensures) in omega arith
+mul-cells c = let f = cells-room _ (c .before .before .before .before .judge-file .ensures) in omega arith
 
 slice-aggregate-fill : tie.Need-slice-aggregate-fill
 slice-aggregate-fill c = search needs
@@ -55,25 +55,25 @@ slice-relend-prefix-fill : tie.Need-slice-relend-prefix-fill
 slice-relend-prefix-fill c =
     let judged = c .before .before .before .before .before .before in
     let room = judged .before .before .before in
-    omega (arith, cells-fit _ (judged .judge-file .ensures), room .before .if1 .left)
+    omega (arith, cells-room _ (judged .judge-file .ensures), room .before .if1 .left)
 
 slice-aggregate-fill-3 : tie.Need-slice-aggregate-fill-3
 slice-aggregate-fill-3 c =
     let judged = c .before .before .before .before .before .before .before in
     let room = judged .before .before .before in
-    sym (front-long _ (judged .judge-file .ensures) _ (room .before .if1 .left))
+    sym (front-room _ (judged .judge-file .ensures) _ (room .before .if1 .left))
 
 slice-relend-prefix-fill-2 : tie.Need-slice-relend-prefix-fill-2
 slice-relend-prefix-fill-2 c =
     let judged = c .before .before .before .before .before .before .before in
     let room = judged .before .before .before in
-    omega (arith, cells-fit _ (judged .judge-file .ensures), room .if2 .left)
+    omega (arith, cells-room _ (judged .judge-file .ensures), room .if2 .left)
 
 slice-aggregate-fill-4 : tie.Need-slice-aggregate-fill-4
 slice-aggregate-fill-4 c =
     let judged = c .before .before .before .before .before .before .before .before in
     let room = judged .before .before .before in
-    sym (front-long _ (judged .judge-file .ensures) _ (room .if2 .left))
+    sym (front-room _ (judged .judge-file .ensures) _ (room .if2 .left))
 
 fill-requires : tie.Need-fill-requires
 fill-requires c κs =

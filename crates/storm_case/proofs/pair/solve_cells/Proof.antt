@@ -1,7 +1,8 @@
 -- `solve_cells` lends the front of each buffer to the solver, and keeps its promise.
 use native.Mathlib.Omega.{arith}
 use Rattle.storm_case.specs.Pair.{front}
-use Rattle.storm_case.proofs.PairLaws.{fitting, cells-fit, front-long, as-long, solved-front}
+use Rattle.storm_case.proofs.PairLaws.{fitting, solved-front}
+use Rattle.storm_case.proofs.Fronts.{cells-fit, front-long, as-long}
 use borrow.Author.Needs.{needs}
 use Rattle.storm_case.proofs.pair.solve_cells.Statement.{statement}
 use Rattle.storm_case.proofs.pair.solve_cells.Tie as tie
