@@ -1,6 +1,6 @@
 -- What a search from 0 upwards finds, and that there is one answer.
-use mathlib.Core.Path.{_≡_, refl, sym, ap, _∙_}
-use mathlib.Core.Logic.{_≢_, dite}
+use mathlib.Core.Path.{_≡_, refl}
+use mathlib.Core.Logic.{dite}
 use mathlib.Core.Bool.{Bool, true, false, not, cond}
 use Prim.Native.Nat.{ℕ, zero, suc, _≤_, _<_, min}
 use native.Mathlib.Decide.{ℕ-discrete, decLt}

@@ -2,14 +2,14 @@
 -- An integer z is `P z - N z`. Each fact of integers is a linear fact of those parts, and none needs to know that one of the parts is 0.
 -- `omega (signed, plus-parts a b, ..)` proves a linear goal over the integers: an order, an equation, or a fit.
 use mathlib.Core.Path.{_≡_, refl, sym, ap, subst}
-use mathlib.Core.Bool.{Bool, true, false, not, cond}
+use mathlib.Core.Bool.{Bool, true, false, cond}
 use Prim.Native.Nat.{ℕ, zero, suc, _+_, _-_, _≤_, _<_, _^_}
 use native.Mathlib.Omega.{arith}
 use lib.Dec.{T, ltb, leb, ltb→lt, nltb→le, leb→le, le→leb, lt→ltb}
 use Rattle.lines.proofs.Tests.{cond-ind}
-use lib.IntN.{ℤ, pos, negsuc, negℤ, subℕ, natAbs, _+ℤ_, _-ℤ_}
-use lib.Signed.{_≤ℤ_, _<ℤ_, ltZ, leZ, mag}
-use borrow.Author.Tests.{ltb-true, ltb-false, leb-true, leb-false}
+use lib.IntN.{ℤ, pos, negsuc, negℤ, subℕ, _+ℤ_, _-ℤ_}
+use lib.Signed.{_≤ℤ_, ltZ, mag}
+use borrow.Author.Tests.{ltb-true, ltb-false}
 use mir.Syntax.{Width}
 use mir.Val.{SFits, hbits}
 

@@ -6,7 +6,7 @@ use Prim.Native.Nat.{ℕ, suc, _<_}
 use lib.IntN.{ℤ}
 use Rattle.steps.specs.Lent.{allows}
 use Rattle.steps.specs.Steps as S
-use Rattle.steps.specs.Steps.{Next, Run, Machine, machine}
+use Rattle.steps.specs.Steps.{Run, Machine, machine}
 use Rattle.steps.proofs.Runs.{over, stays, steps-last}
 use Rattle.steps.proofs.Settles.{left}
 use Rattle.munkres.specs.Good.{Good, Came}

@@ -1,13 +1,13 @@
 -- What the functions around the run need: what an end gives back, and the verdict.
 use mathlib.Core.Path.{_≡_, refl, sym, ap, subst, _∙_}
 use mathlib.Core.Logic.{_≢_, dite}
-use mathlib.Core.Bool.{Bool, true, false, not, cond, _&&_, true≢false}
+use mathlib.Core.Bool.{true, false, not, cond, true≢false}
 use mathlib.Core.List.{List}
 use mathlib.Core.Option.{some}
-use Prim.Native.Nat.{ℕ, _+_, _*_, _≤_, _<_}
+use Prim.Native.Nat.{ℕ, _*_, _≤_, _<_}
 use native.Mathlib.Decide.{decLt}
 use native.Mathlib.Omega.{arith}
-use lib.Dec.{T, not-T, ltb, ltb→lt, lt→ltb, eqb, eqb→eq}
+use lib.Dec.{T, not-T, ltb, eqb, eqb→eq}
 use lib.IntN.{ℤ, pos}
 use lib.ListN.{length, length-replicate, List·getD-eq-default}
 use borrow.Author.Tests.{le-ltb, lt-ltb}
@@ -22,7 +22,7 @@ use Rattle.steps.specs.declared.Answer.{Answer}
 use Rattle.steps.specs.Lent.{Task, Buffers, allows, cost-at}
 use Rattle.steps.specs.Refusal as R
 use Rattle.steps.specs.Steps as S
-use Rattle.steps.specs.Steps.{Run, Machine, machine, star-in-row, start, steps}
+use Rattle.steps.specs.Steps.{Run, Machine, star-in-row, start, steps}
 use Rattle.steps.specs.Outcome.{answer, no-run, given, judged, written, chosen, Outcome}
 use Rattle.steps.specs.Promise.{Promise}
 use Rattle.steps.proofs.Runs.{over}

@@ -1,7 +1,7 @@
 -- A change times a mask byte that is 0 or 1, as the code holds it: the change at an allowed cell, and 0 at a forbidden one, whose value then stays.
 use mathlib.Core.Path.{_≡_, refl, _∙_}
 use mathlib.Core.Bool.{Bool, true, false, cond}
-use Prim.Native.Nat.{ℕ, zero, suc, _≤_, _<_}
+use Prim.Native.Nat.{ℕ, zero, suc, _≤_}
 use native.Mathlib.Omega.{arith}
 use lib.Dec.{eqb}
 use lib.IntN.{ℤ, pos, one, _*ℤ_, *ℤ-one, *ℤ-zero, +ℤ-idr}

@@ -1,37 +1,34 @@
 -- What the run's functions need of a good machine: each step's own demands, that a step leaves it good, and that the run falls.
-use mathlib.Core.Path.{_≡_, refl, sym, ap, subst, _∙_}
+use mathlib.Core.Path.{_≡_, sym, ap, subst, _∙_}
 use mathlib.Core.Logic.{_≢_}
-use mathlib.Core.Bool.{Bool, true, false, not, cond}
+use mathlib.Core.Bool.{Bool, true, false}
 use mathlib.Core.List.{List}
-use Prim.Native.Nat.{ℕ, suc, _+_, _-_, _*_, _/_, _^_, _≤_, _<_}
+use Prim.Native.Nat.{ℕ, _+_, _-_, _*_, _^_, _≤_, _<_}
 use native.Mathlib.Nat.{mul-le-mul}
 use native.Mathlib.Omega.{arith}
-use lib.Dec.{T, T-not, not-T, ltb, lt→ltb, eqb}
+use lib.Dec.{T, ltb, lt→ltb, eqb}
 use lib.IntN.{ℤ, pos}
-use lib.ListN.{length, getD}
+use lib.ListN.{getD}
 use mir.Syntax.{w64}
-use mir.Val.{SFits}
 use Rattle.lines.specs.Count.{count}
-use Rattle.lines.specs.Sets.{has}
 use Rattle.lines.proofs.Tests.{T-true, T-false, eqb-no}
 use Rattle.lines.proofs.Counts.{count-le}
 use Rattle.lines.proofs.Signed.{within-fits}
 use Rattle.steps.specs.Lent.{allows}
 use Rattle.steps.specs.Steps as S
-use Rattle.steps.specs.Steps.{Next, Run, Machine, machine, star-in-row, star-count, lowest, followed, lowered, raised}
-use Rattle.steps.proofs.Runs.{over, steps-last}
+use Rattle.steps.specs.Steps.{Next, Machine, machine, star-in-row, star-count, lowest, followed, lowered, raised}
+use Rattle.steps.proofs.Runs.{over}
 use Rattle.steps.proofs.Marks.{find-star, mark-is-star}
 use Rattle.steps.proofs.Path.{Ends}
 use Rattle.steps.proofs.Theorems.{ready-ends}
-use Rattle.steps.proofs.Search.{Starred, Search, Sound-at}
-use Rattle.steps.proofs.Pace.{Paced-at, few-rows, few-stars}
-use Rattle.steps.proofs.Fresh.{Fresh, fresh-step, first-stars, adjusts-before, primes-before, ceilings-within}
-use Rattle.steps.proofs.Limited.{InLimits, limited-step, limits}
-use Rattle.steps.proofs.Limits.{limit-fresh}
+use Rattle.steps.proofs.Search.{Starred, Sound-at}
+use Rattle.steps.proofs.Pace.{Paced-at, few-stars}
+use Rattle.steps.proofs.Fresh.{fresh-step, first-stars, adjusts-before, primes-before, ceilings-within}
+use Rattle.steps.proofs.Limited.{limited-step, limits}
 use Rattle.steps.proofs.Settles.{left, falls}
 use Rattle.steps.proofs.Budget.{within}
-use Rattle.munkres.specs.Square.{Square, Fit64}
-use Rattle.munkres.specs.Good.{OneStarARow, Adjusts, Good, Came}
+use Rattle.munkres.specs.Square.{Square}
+use Rattle.munkres.specs.Good.{OneStarARow, Adjusts, Good}
 
 -- a star that the marks show is the first of its row
 pub one-star : {n : ℕ} {ok : ℕ → ℕ → Bool} {working : List ℤ} {marks : List ℕ} → Starred n ok working marks → OneStarARow n marks

@@ -1,12 +1,12 @@
 -- Steps 4 and 6 as the code leaves them: what its searches answered, and the step's result in that form.
-use mathlib.Core.Path.{_≡_, refl, sym, ap, ap₂, _∙_}
+use mathlib.Core.Path.{_≡_, refl, sym}
 use mathlib.Core.Logic.{_≢_}
 use mathlib.Core.Bool.{Bool, true, false, not, cond}
 use mathlib.Core.List.{List}
-use Prim.Native.Nat.{ℕ, _+_, _*_, _/_, _%_, _≤_, _<_}
+use Prim.Native.Nat.{ℕ, _+_, _*_, _≤_, _<_}
 use native.Mathlib.Nat.{mul-le-mul}
 use native.Mathlib.Omega.{arith}
-use lib.Dec.{T, not-T, ltb, ltb→lt, lt→ltb, nltb→le, eqb}
+use lib.Dec.{T, not-T, ltb, ltb→lt, lt→ltb, eqb}
 use lib.IntN.{ℤ, pos}
 use lib.ListN.{getD, set}
 use mir.Syntax.{w64}
@@ -18,7 +18,6 @@ use Rattle.lines.proofs.Squares.{place-lt}
 use Rattle.steps.specs.Steps as S
 use Rattle.steps.specs.Steps.{Run, run-with, star-in-row, zero-in-column, zero-column, lowest, followed, lowered, raised, step4, step6}
 use Rattle.steps.proofs.Turns.{zero-found}
-use Rattle.munkres.specs.declared.coverage.Cell.{Cell}
 use Rattle.munkres.specs.declared.coverage.Cell.the-variants.{At, Nothing}
 use Rattle.munkres.specs.Cell.{found-zero}
 

@@ -1,5 +1,5 @@
 -- Fresh runs: what holds at every machine on the way from the start of an accepted call, and the ceilings of its counts.
-use mathlib.Core.Path.{_≡_, refl, sym, ap, _∙_}
+use mathlib.Core.Path.{ap, _∙_}
 use mathlib.Core.Bool.{Bool}
 use mathlib.Core.List.{List}
 use Prim.Native.Nat.{ℕ, suc, _+_, _-_, _*_, _/_, _≤_, _<_}
@@ -16,7 +16,7 @@ use Rattle.lines.proofs.Squares.{square-at}
 use Rattle.steps.specs.Steps.{Run, Machine, star-count, row-price, excess, start, step, steps}
 use Rattle.steps.proofs.Runs.{kept}
 use Rattle.steps.proofs.Shape.{Shape, shape-start, shape-step}
-use Rattle.steps.proofs.Search.{Zero, Sound, sound-step}
+use Rattle.steps.proofs.Search.{Sound, sound-step}
 use Rattle.steps.proofs.Priced.{Priced, priced-start, priced-step, excess-allowed}
 use Rattle.steps.proofs.Pace.{Seen, Pace, Paced, paced-step}
 use Rattle.steps.proofs.Start.{one-star, sound-start}

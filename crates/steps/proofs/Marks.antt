@@ -13,7 +13,7 @@ use Rattle.lines.specs.Square.{cell, square}
 use Rattle.lines.proofs.Tests.{eqb-yes}
 use Rattle.lines.proofs.Puts.{put, put-at, put-off, put2, put2-case}
 use Rattle.lines.proofs.Counts.{count-ext}
-use Rattle.lines.proofs.Firsts.{first-only, first-none, ltb-min}
+use Rattle.lines.proofs.Firsts.{first-only, ltb-min}
 use Rattle.lines.proofs.Squares.{cell-set, length-each, each-cell, length-square, square-all}
 use Rattle.steps.specs.Steps.{star-in-row, star-in-column, prime-in-row, star-count, clear-primes}
 use Rattle.steps.proofs.Matching.{Matching, has-star}

@@ -1,6 +1,6 @@
 -- Stars as a partial matching: two functions, inverse to each other where they are below n. `star i` is the column of row i's star, `row j` the row of column
 -- j's star, and a number not below n says that there is none.
-use mathlib.Core.Path.{_≡_, refl, sym, ap, _∙_}
+use mathlib.Core.Path.{_≡_, refl, ap}
 use mathlib.Core.Logic.{_≢_, dite}
 use mathlib.Core.Bool.{Bool}
 use Prim.Native.Nat.{ℕ, _+_, _≤_, _<_}

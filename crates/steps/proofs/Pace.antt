@@ -1,20 +1,18 @@
 -- The invariant *pace*: how many adjustments and primes there can be. One law of one phase: with s stars it makes at most s adjustments and s + 1 primes.
-use mathlib.Core.Path.{_≡_, refl, sym, ap, _∙_}
+use mathlib.Core.Path.{_≡_, refl, ap, _∙_}
 use mathlib.Core.Logic.{_≢_, ⊎-elim}
-use mathlib.Core.Bool.{Bool, true, false, not}
+use mathlib.Core.Bool.{Bool, not}
 use mathlib.Core.List.{List}
 use Prim.Native.Nat.{ℕ, suc, _+_, _*_, _≤_, _<_}
 use native.Mathlib.Omega.{arith}
 use lib.Dec.{T}
-use lib.IntN.{ℤ, pos}
+use lib.IntN.{ℤ}
 use lib.ListN.{length}
 use Rattle.lines.specs.Count.{count}
 use Rattle.lines.specs.Sets.{has}
 use Rattle.lines.proofs.Tests.{T-or}
-use Rattle.lines.proofs.Counts.{count-le, count-none}
-use Rattle.lines.proofs.Sets.{has-empty}
 use Rattle.steps.specs.Steps.{Next, Step3, Step4, Step5, Step6, Paired, NoPairing, Unfinished, Run, Machine, machine, star-count, covering, reaching, step5, augmenting, adjusting, followed, step-at, step}
-use Rattle.steps.proofs.Turns.{Open, OpenZero, NoZero, Lowest, step3-ind, step4-ind, step6-ind}
+use Rattle.steps.proofs.Turns.{Open, OpenZero, NoZero, step3-ind, step4-ind, step6-ind}
 use Rattle.steps.proofs.Marks.{find-count}
 use Rattle.steps.proofs.Phase.{covers, room}
 use Rattle.steps.proofs.Adjusted.{column-stays, lowest-zero}

@@ -1,5 +1,5 @@
 -- The search between two augmentations (steps 3, 4 and 6), as facts on stars, primes and covers, whichever zero step 4 takes.
-use mathlib.Core.Path.{_≡_, refl, sym, ap, _∙_}
+use mathlib.Core.Path.{_≡_, sym, ap, _∙_}
 use mathlib.Core.Logic.{_≢_, dite, ⊎-elim}
 use mathlib.Core.Bool.{Bool, true, false, not, _&&_}
 use Prim.Native.Nat.{ℕ, suc, _+_, _≤_, _<_}

@@ -1,13 +1,12 @@
 -- Every call has an outcome, and every outcome keeps the whole promise.
 use mathlib.Core.Path.{_≡_, refl, sym, ap, subst, _∙_}
-use mathlib.Core.Logic.{_≢_, _⊎_, inl, inr}
-use mathlib.Core.Bool.{Bool, true, false, true≢false}
-use mathlib.Core.List.{List}
+use mathlib.Core.Logic.{_≢_, inl, inr}
+use mathlib.Core.Bool.{true, false, true≢false}
 use mathlib.Core.Option.{Option, some, Option·some-injective, Option·none-ne-some}
-use Prim.Native.Nat.{ℕ, zero, suc, _+_, _-_, _*_, _/_, _≤_, _<_}
+use Prim.Native.Nat.{ℕ, _-_, _*_, _/_, _<_}
 use native.Mathlib.Omega.{arith}
 use lib.Dec.{T}
-use lib.IntN.{ℤ, pos}
+use lib.IntN.{pos}
 use Rattle.lines.specs.Sets.{has, with, all, rest}
 use Rattle.assignment.specs.Problem.{total}
 use Rattle.assignment.proofs.Blocks.{block-impossible}
@@ -23,7 +22,7 @@ use Rattle.steps.proofs.Settles.{settles}
 use Rattle.steps.proofs.Start.{sound-start}
 use Rattle.steps.proofs.Shape.{shape-start}
 use Rattle.steps.proofs.Pace.{Paced-at, few-rows, few-stars, room-left}
-use Rattle.steps.proofs.Budget.{Spent, spent, spent-start}
+use Rattle.steps.proofs.Budget.{spent, spent-start}
 use Rattle.steps.proofs.Fresh.{Fresh, fresh, first-stars, adjusts-before, primes-before, ceilings-within, ceilings-full, below-ceiling}
 use Rattle.steps.proofs.Ends.{paired, paired-least, paired-adds-up, price-list, step6-block, dead-block}
 use Rattle.steps.proofs.Verdicts.{Accepted, Tells, verdict-tells, accepted-is}

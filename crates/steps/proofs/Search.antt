@@ -1,11 +1,11 @@
 -- The invariant *search* on the machine: what its marks and covers mean at each step, and that every step keeps it. It speaks of no price and no count.
-use mathlib.Core.Path.{_≡_, refl, sym, ap, subst, _∙_}
+use mathlib.Core.Path.{_≡_, refl, sym, ap, _∙_}
 use mathlib.Core.Logic.{_≢_}
-use mathlib.Core.Bool.{Bool, true, false, not}
+use mathlib.Core.Bool.{Bool, true, false}
 use mathlib.Core.List.{List}
 use Prim.Native.Nat.{ℕ, suc, _+_, _*_, _≤_, _<_}
 use native.Mathlib.Omega.{arith}
-use lib.Dec.{T, not-T, ltb}
+use lib.Dec.{T, ltb}
 use lib.IntN.{ℤ, pos}
 use lib.ListN.{length, set}
 use Rattle.lines.specs.Count.{count}
@@ -15,8 +15,8 @@ use Rattle.lines.proofs.Puts.{put, put-at}
 use Rattle.lines.proofs.Counts.{count-ext, count-le, bit-ge}
 use Rattle.lines.proofs.Firsts.{ltb-min}
 use Rattle.lines.proofs.Sets.{has-empty, has-those, with-put, without-put}
-use Rattle.steps.specs.Steps.{Next, Step3, Step4, Step5, Step6, Paired, NoPairing, Unfinished, Run, Machine, machine, star-in-row, star-in-column, star-columns, star-count, to, step3, covering, reaching, step4, path, flip, clear-primes, step5, augmenting, adjusting, followed, step6, step-at, step}
-use Rattle.steps.proofs.Turns.{Open, OpenZero, NoZero, NoOpen, Lowest, step3-ind, step4-ind, step6-ind}
+use Rattle.steps.specs.Steps.{Next, Step3, Step4, Step5, Step6, Paired, NoPairing, Unfinished, Machine, machine, star-in-row, star-columns, star-count, step3, covering, reaching, step4, path, flip, clear-primes, step5, augmenting, adjusting, followed, step6, step-at, step}
+use Rattle.steps.proofs.Turns.{Open, OpenZero, NoZero, NoOpen, step3-ind, step4-ind, step6-ind}
 use Rattle.steps.proofs.Matching.{Matching, has-star}
 use Rattle.steps.proofs.Flip as F
 use Rattle.steps.proofs.Marks.{Shows, show-primed, show-bare, show-cleared, find-star, find-row, find-count}

@@ -1,6 +1,6 @@
 -- Every run ends, from any state with the search invariant: a phase adds a star, a prime covers a row or ends the phase, and after an adjustment there is an
 -- uncovered zero, so that a prime follows.
-use mathlib.Core.Path.{_≡_, refl, sym, ap, _∙_}
+use mathlib.Core.Path.{_≡_, refl, ap}
 use mathlib.Core.Logic.{dite}
 use mathlib.Core.Bool.{Bool, true, false, cond, true≢false}
 use mathlib.Core.List.{List}
@@ -15,13 +15,13 @@ use Rattle.lines.specs.Count.{count}
 use Rattle.lines.specs.Sets.{has, with, without}
 use Rattle.lines.proofs.Tests.{T-true}
 use Rattle.lines.proofs.Counts.{count-le}
-use Rattle.steps.specs.Steps.{Next, Step3, Step4, Step5, Step6, Paired, NoPairing, Unfinished, Run, Machine, machine, star-in-row, star-columns, star-count, covering, reaching, path, flip, clear-primes, step5, augmenting, zero-column, adjusting, followed, step-at, step, steps}
+use Rattle.steps.specs.Steps.{Next, Step3, Step4, Step5, Step6, Paired, NoPairing, Unfinished, Machine, machine, star-in-row, star-columns, star-count, covering, reaching, path, flip, clear-primes, step5, augmenting, zero-column, adjusting, followed, step-at, step, steps}
 use Rattle.steps.proofs.Turns.{OpenZero, NoZero, zero-found, zero-none, step3-ind, step4-ind, step6-ind}
 use Rattle.steps.proofs.Runs.{over, ends}
 use Rattle.steps.proofs.Shape.{Shape, shape-step}
 use Rattle.steps.proofs.Adjusted.{lowest-zero}
 use Rattle.steps.proofs.Marks.{find-count}
-use Rattle.steps.proofs.Search.{Search, Sound, Sound-at, sound-step, same-stars, one-row-more, one-star-more}
+use Rattle.steps.proofs.Search.{Sound, Sound-at, sound-step, same-stars, one-row-more, one-star-more}
 
 module _ (n : ℕ) (ok : ℕ → ℕ → Bool) where
   -- 1 where step 4 will find a zero, and 3 where it will not

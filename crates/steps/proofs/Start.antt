@@ -1,7 +1,7 @@
 -- Step 2 leaves stars on zeros, one at most in each row and column; and one at least, if row 0 has a zero.
-use mathlib.Core.Path.{_≡_, refl, sym, ap, _∙_}
-use mathlib.Core.Logic.{_≢_, dite}
-use mathlib.Core.Bool.{Bool, true, false, not, cond, _&&_}
+use mathlib.Core.Path.{refl, ap}
+use mathlib.Core.Logic.{dite}
+use mathlib.Core.Bool.{Bool, not, cond, _&&_}
 use mathlib.Core.List.{List}
 use Prim.Native.Nat.{ℕ, zero, suc, _+_, _*_, _≤_, _<_}
 use native.Mathlib.Decide.{ℕ-discrete, decLt}
@@ -10,12 +10,12 @@ use lib.Dec.{T, T-not, not-T, ltb, ltb→lt, lt→ltb, nltb→le}
 use lib.IntN.{ℤ, pos}
 use lib.ListN.{set}
 use Rattle.lines.specs.Count.{count}
-use Rattle.lines.specs.Square.{cell, square}
+use Rattle.lines.specs.Square.{square}
 use Rattle.lines.proofs.Tests.{cond-ind, both, and-left, and-right}
 use Rattle.lines.proofs.Puts.{put, put-off, put-case}
 use Rattle.lines.proofs.Counts.{count-pos}
 use Rattle.lines.proofs.Firsts.{first-is}
-use Rattle.steps.specs.Steps.{Machine, star-in-column, star-count, zero-at, excess, free-zero, star-row, step2, start}
+use Rattle.steps.specs.Steps.{star-in-column, star-count, zero-at, excess, free-zero, star-row, step2, start}
 use Rattle.steps.proofs.Turns.{zero-is, is-zero-pos}
 use Rattle.steps.proofs.Matching.{Matching, moved, none-apart, starless, has-star}
 use Rattle.steps.proofs.Marks.{Shows, show-none, show-bare, show-starred, find-row, find-count}

@@ -1,11 +1,10 @@
 -- The theorems about a call that stand beside the promise, each by its name. `answered` and `promised` are in Promised.antt.
 use mathlib.Core.Path.{_≡_, refl, sym, ap, subst, _∙_}
 use mathlib.Core.Logic.{_≢_}
-use mathlib.Core.Bool.{Bool, true, false, _||_}
+use mathlib.Core.Bool.{Bool, false}
 use mathlib.Core.List.{List}
 use mathlib.Core.Option.{some, Option·some-injective, Option·none-ne-some}
 use Prim.Native.Nat.{ℕ, suc, _+_, _-_, _*_, _^_, _≤_, _<_, min}
-use native.Mathlib.Nat.{mul-le-mul-left}
 use native.Mathlib.Omega.{arith}
 use lib.Dec.{T, T-not, eqb}
 use lib.IntN.{ℤ, pos, negsuc}
@@ -19,7 +18,7 @@ use Rattle.lines.proofs.Signed.{signed, Within, within-fits}
 use Rattle.steps.specs.declared.Answer.{Answer}
 use Rattle.steps.specs.Lent.{Task, Buffers, allowed, cost, allows, cost-at}
 use Rattle.steps.specs.Refusal.{accepted, out-of-range, bad-cost, verdict}
-use Rattle.steps.specs.Steps.{Next, Step3, Step4, Step5, Step6, Paired, NoPairing, Unfinished, Run, Machine, star-in-column, prime-in-row, star-in-row, start, path, steps}
+use Rattle.steps.specs.Steps.{Next, Step3, Step4, Step5, Step6, Paired, NoPairing, Unfinished, Machine, star-in-column, prime-in-row, star-in-row, start, path}
 use Rattle.steps.specs.Counts.{adjusts, primes, augments, turns}
 use Rattle.steps.specs.Outcome.{given, judged, Outcome}
 use Rattle.steps.specs.Promise.{Promise}
@@ -31,7 +30,7 @@ use Rattle.steps.proofs.Marks.{find-prime}
 use Rattle.steps.proofs.Path.{Ends, star-off, path-length, path-ends, prime-there}
 use Rattle.steps.proofs.Search.{Sound, Sound-at, sound-step, Ready, time′, prime′, chained, early, at-prime}
 use Rattle.steps.proofs.Budget.{Spent, spent, spent-start}
-use Rattle.steps.proofs.Counted.{Counted, counted}
+use Rattle.steps.proofs.Counted.{counted}
 use Rattle.steps.proofs.Limited.{Limited, InLimits, limited-start, limited-step, limits}
 use Rattle.steps.proofs.Limits.{limit-fresh}
 use Rattle.steps.proofs.Fresh.{Fresh, fresh-step, fresh-start}

@@ -14,7 +14,7 @@ use Rattle.assignment.specs.Problem.{AllowedPairing, NoneBelow, Impossible, Blo
 use Rattle.assignment.specs.Prices.{PriceList}
 use Rattle.steps.specs.declared.Answer.{Answer}
 use Rattle.steps.specs.Lent.{Task, Buffers, allowed, cost}
-use Rattle.steps.specs.Refusal.{Verdict, accepted, lengths, bad-mask, bad-cost, verdict}
+use Rattle.steps.specs.Refusal.{accepted, lengths, bad-mask, bad-cost, verdict}
 use Rattle.steps.specs.Outcome.{Outcome}
 
 -- what the rules 1 to 5 let pass

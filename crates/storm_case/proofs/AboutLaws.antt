@@ -1,35 +1,35 @@
 -- What the solver's promise says of the file: its cells are the file's pairs, so the columns are a pairing of fragments with events.
 use mathlib.Core.Path.{_≡_, refl, sym, ap, subst, _∙_}
-use mathlib.Core.Logic.{_≢_, _⊎_, inl, inr}
-use mathlib.Core.Bool.{Bool, true, false, not, cond, _&&_, _||_}
+use mathlib.Core.Logic.{_⊎_, inl, inr}
+use mathlib.Core.Bool.{Bool, true, false, not, cond, _&&_}
 use mathlib.Core.List.{List}
 use mathlib.Core.Option.{Option, none, some}
-use Prim.Native.Nat.{ℕ, zero, suc, _+_, _-_, _*_, _/_, _%_, _≤_, _<_}
+use Prim.Native.Nat.{ℕ, zero, _-_, _*_, _/_, _%_, _≤_, _<_}
 use native.Mathlib.Omega.{arith}
 use lib.Dec.{T, T-not, eqb, eqb→eq, ltb, nltb→le}
-use lib.IntN.{ℤ, pos, negsuc}
-use lib.Signed.{ltZ, _≤ℤ_}
+use lib.IntN.{ℤ, pos}
+use lib.Signed.{_≤ℤ_}
 use lib.ListN.{length, getD}
 use borrow.Author.Tests.{le-ltb}
 use Rattle.lines.specs.Square.{cell, square}
 use Rattle.lines.specs.Sets.{has}
 use Rattle.lines.specs.First.{any}
-use Rattle.lines.proofs.Tests.{both, and-left, and-right, eqb-yes, T-true, T-false, cond-ind}
+use Rattle.lines.proofs.Tests.{T-true, cond-ind}
 use Rattle.lines.proofs.Firsts.{any-is}
-use Rattle.lines.proofs.Squares.{table-at, place-in, square-at, length-square}
+use Rattle.lines.proofs.Squares.{table-at, square-at}
 use Rattle.lines.proofs.Sumsℤ.{sumℤ-ext}
-use Rattle.assignment.specs.Problem.{column, AllowedPairing, NoneBelow, Impossible, Block, total}
+use Rattle.assignment.specs.Problem.{column, AllowedPairing, Block, total}
 use Rattle.steps.specs.declared.Answer.{Answer}
 use Rattle.steps.specs.Lent.{Task, Buffers, allows, cost-at, allowed, cost}
 use Rattle.steps.specs.Refusal as R
 use Rattle.steps.specs.Steps as S
 use Rattle.steps.specs.Outcome.{given, judged, Outcome}
 use Rattle.steps.specs.Promise.{Fit, Promise}
-use Rattle.munkres.specs.View.{task, buffers}
+use Rattle.munkres.specs.View.{task}
 use Rattle.storm_case.specs.declared.pair.Pairs.{Pairs}
 use Rattle.storm_case.specs.Scan.{Scan}
 use Rattle.storm_case.specs.Case.{row-area, column-area, clock-error, may-pair, pair-cost, mask-byte}
-use Rattle.storm_case.specs.Pair.{front, paired, enough, SolvedBy, clock-cost, AboutFile}
+use Rattle.storm_case.specs.Pair.{front, enough, SolvedBy, clock-cost, AboutFile}
 use Rattle.storm_case.proofs.ScanLaws.{Filled}
 
 -- ---- a fit input is settled as 0 or 6, unless the budget ends

@@ -1,10 +1,9 @@
 -- Theorems of `pair_case`: two answers that meet its promise are equal, and the first 4,096 bytes decide.
 use mathlib.Core.Path.{_≡_, refl, sym, ap, subst, _∙_}
-use mathlib.Core.Bool.{Bool, true, false}
-use mathlib.Core.List.{List, [], _∷_, _++_}
-use Prim.Native.Nat.{ℕ, zero, suc, _*_}
+use mathlib.Core.Bool.{true}
+use mathlib.Core.List.{List, _++_}
+use Prim.Native.Nat.{ℕ, _*_}
 use native.Mathlib.Omega.{arith}
-use lib.IntN.{ℤ}
 use lib.ListN.{take, drop, take-append-drop}
 use Rattle.lines.proofs.Tests.{by-cases}
 use Rattle.steps.specs.declared.Answer.{Answer}

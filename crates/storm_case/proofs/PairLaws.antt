@@ -1,9 +1,9 @@
 -- Pairing a case: the room that it takes, the budget, the solver's promise, and what is given back by the verdict.
-use mathlib.Core.Path.{_≡_, refl, sym, ap, subst, _∙_}
+use mathlib.Core.Path.{_≡_, refl, sym, ap, _∙_}
 use mathlib.Core.Logic.{_≢_}
-use mathlib.Core.Bool.{Bool, true, false, cond, _&&_}
-use mathlib.Core.List.{List, [], _∷_, _++_}
-use Prim.Native.Nat.{ℕ, zero, suc, _+_, _-_, _*_, _/_, _^_, _≤_, _<_}
+use mathlib.Core.Bool.{true, false, _&&_}
+use mathlib.Core.List.{List, _++_}
+use Prim.Native.Nat.{ℕ, _+_, _-_, _*_, _≤_}
 use native.Mathlib.Nat.{mul-le-mul}
 use native.Mathlib.Omega.{arith}
 use lib.Dec.{T, eqb, eqb→eq}
@@ -13,7 +13,7 @@ use lib.Seq.{take-at, drop-at}
 use borrow.Author.Tests.{eq-eqb}
 use Rattle.lines.specs.Square.{square}
 use Rattle.lines.proofs.Squares.{length-square}
-use Rattle.lines.proofs.Tests.{both, and-left, and-right, eqb-yes, T-true, by-cases, clash}
+use Rattle.lines.proofs.Tests.{and-left, and-right, by-cases, clash}
 use Rattle.steps.specs.declared.Answer.{Answer}
 use Rattle.steps.specs.Lent.{Buffers}
 use Rattle.steps.specs.Refusal as R
@@ -25,7 +25,7 @@ use Rattle.storm_case.specs.Scan as D
 use Rattle.storm_case.specs.Case.{pair-cost, mask-byte, filled, case-of, read}
 use Rattle.storm_case.specs.Pair.{Room, room, fits, enough-room, front, behind, unpaired, paired, enough, SolvedBy, Solved, PairPromise}
 use Rattle.storm_case.proofs.Fronts.{cells-fit, front-long}
-use Rattle.storm_case.proofs.ScanLaws.{Filled, never-more, accepted-filled, refused-some}
+use Rattle.storm_case.proofs.ScanLaws.{never-more, accepted-filled, refused-some}
 use Rattle.storm_case.proofs.AboutLaws.{of-file, about-file}
 
 -- ---- the room

@@ -1,14 +1,13 @@
 -- The judgement of a file by its definition: each test of each record, what a record does to the scan, and that the records come to a verdict.
 use mathlib.Core.Path.{_≡_, refl, sym, ap, subst, _∙_}
 use mathlib.Core.Logic.{_≢_}
-use mathlib.Core.Bool.{Bool, true, false, not, cond, _&&_, _||_}
+use mathlib.Core.Bool.{true, false}
 use mathlib.Core.List.{List, [], _∷_, _++_}
 use Prim.Native.Nat.{ℕ, zero, suc, _+_, _≤_, _<_}
 use native.Mathlib.Omega.{arith}
-use lib.Dec.{T, eqb, eqb→eq, ltb, nltb→le}
+use lib.Dec.{T, eqb, ltb}
 use lib.ListN.{length, getD}
 use borrow.Author.Tests.{le-ltb, lt-ltb, eq-eqb, ne-eqb}
-use Rattle.lines.proofs.Tests.{cond-ind, and-left, and-right}
 use Rattle.storm_case.specs.declared.Found.{Found}
 use Rattle.storm_case.specs.declared.Found.the-variants.{Body, Cut, Unknown}
 use Rattle.storm_case.specs.Records.{found, u16-at, u32-at}
