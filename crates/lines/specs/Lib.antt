@@ -3,3 +3,4 @@ pub mod Count
 pub mod First
 pub mod Square
 pub mod Sets
+pub mod Bounds

@@ -16,16 +16,16 @@ use Rattle.lines.specs.Sets.{rest, with, all}
 use Rattle.lines.specs.Square.{cell, table}
 use Rattle.lines.proofs.Tests.{T-true, T-false, T-same, eqb-yes, eqb-no}
 use Rattle.lines.proofs.Squares.{table-at}
-use Rattle.lines.proofs.Signed.{Within}
+use Rattle.lines.specs.Bounds.{Within}
 use Rattle.assignment.specs.Problem.{total}
 use Rattle.steps.specs.declared.Answer.{Answer}
-use Rattle.steps.specs.Lent.{Task, Buffers, allows, cost-at}
+use Rattle.steps.specs.Lent.{Task, Buffers, allows, cost-at, task, buffers}
 use Rattle.steps.specs.Refusal as R
 use Rattle.steps.specs.Steps as S
 use Rattle.steps.specs.Steps.{Run, Machine, star-in-row, start, steps}
 use Rattle.steps.specs.Outcome.{answer, no-run, given, judged, written, chosen, Outcome}
 use Rattle.steps.specs.Promise.{Promise}
-use Rattle.steps.proofs.Runs.{over}
+use Rattle.steps.specs.Counts.{over}
 use Rattle.steps.proofs.Ends.{paired}
 use Rattle.steps.proofs.Search.{Sound-at}
 use Rattle.steps.proofs.Fresh.{fresh-start}
@@ -37,7 +37,7 @@ use Rattle.munkres.specs.declared.Next.{Next}
 use Rattle.munkres.specs.declared.Next.the-variants.{Step3, Step4, Step5, Step6, Paired, NoPairing, Unfinished}
 use Rattle.munkres.specs.declared.Verdict.{Verdict}
 use Rattle.munkres.specs.declared.Verdict.the-variants.{Dead}
-use Rattle.munkres.specs.View.{view-next, view-verdict, task, buffers, lent}
+use Rattle.munkres.specs.View.{view-next, view-verdict, lent}
 use Rattle.munkres.specs.Square.{Square, Flags}
 use Rattle.munkres.specs.Good.{Startable, Given, Good, Came}
 use Rattle.munkres.proofs.Masks.{mask-flag}

@@ -17,7 +17,7 @@ use Rattle.lines.proofs.Signed.{within-fits}
 use Rattle.steps.specs.Lent.{allows}
 use Rattle.steps.specs.Steps as S
 use Rattle.steps.specs.Steps.{Next, Machine, machine, star-in-row, star-count, lowest, followed, lowered, raised}
-use Rattle.steps.proofs.Runs.{over}
+use Rattle.steps.specs.Counts.{over}
 use Rattle.steps.proofs.Marks.{find-star, mark-is-star}
 use Rattle.steps.proofs.Path.{Ends}
 use Rattle.steps.proofs.Theorems.{ready-ends}

@@ -12,13 +12,13 @@ use mir.Val.{SFits}
 use Rattle.lines.specs.First.{any}
 use Rattle.lines.specs.Sets.{rest}
 use Rattle.lines.specs.Square.{cell, table}
-use Rattle.lines.proofs.Signed.{Within}
+use Rattle.lines.specs.Bounds.{Within}
 use Rattle.assignment.specs.Problem.{total}
 use Rattle.steps.specs.declared.Answer.{Answer}
 use Rattle.steps.specs.Lent.{allows, cost-at}
 use Rattle.steps.specs.Steps.{Next, Step3, Step4, Step5, Step6, Paired, NoPairing, Unfinished, Run, Machine, star-in-row, lowest, followed, lowered, raised, steps}
 use Rattle.steps.specs.Outcome.{answer}
-use Rattle.steps.proofs.Runs.{over}
+use Rattle.steps.specs.Counts.{over}
 use Rattle.steps.proofs.Fresh.{Fresh}
 use Rattle.steps.proofs.Limited.{Limited}
 use Rattle.munkres.specs.Square.{Flags, Fit64}

@@ -15,12 +15,15 @@ pub mod Start
 pub mod Pace
 pub mod Counted
 pub mod Budget
+pub mod RuleLaws
 pub mod Verdicts
+pub mod Returned
 pub mod Starts
 pub mod Answers
 pub mod Fresh
 pub mod Limited
 pub mod Ends
+pub mod FreshLimits
 pub mod Promised
 pub mod Theorems
 pub mod Samples

@@ -19,10 +19,12 @@ use Rattle.lines.proofs.Puts.{put}
 use Rattle.lines.proofs.Counts.{count-none}
 use Rattle.lines.proofs.Firsts.{any-is}
 use Rattle.lines.proofs.Leasts.{least-is}
-use Rattle.lines.proofs.Signed.{Within, within-zero}
+use Rattle.lines.specs.Bounds.{Within}
+use Rattle.lines.proofs.Signed.{within-zero}
 use Rattle.lines.proofs.Squares.{place-in, place-back, table-at}
 use Rattle.lines.proofs.Sets.{has-empty, has-those, with-put, without-put}
 use Rattle.steps.specs.Steps.{Next, Step3, Step4, Step5, Step6, Paired, NoPairing, Unfinished, Machine, machine, star-in-row, star-in-column, star-columns, star-count, row-price, start, covering, reaching, path, flip, clear-primes, step5, augmenting, adjusting, lowered, raised, step-at, step}
+use Rattle.steps.specs.Promise.{InLimits}
 use Rattle.steps.proofs.Turns.{OpenZero, Lowest, step3-ind, step4-ind, step6-ind}
 use Rattle.steps.proofs.Matching.{has-star}
 use Rattle.steps.proofs.Marks.{Shows, find-star, find-row, find-count}
@@ -59,11 +61,9 @@ module _ (n C A B : ℕ) where
   pub record Limited (m : Machine) : Type 0 where
     pub at-next : Limited-at (m .run .next) m
 
--- every price and every working value is within L
-pub record InLimits (n L : ℕ) (m : Machine) : Type 0 where
-  pub row-prices : (i : ℕ) → i < n → Within L (getD (m .row-prices) i (pos 0))
-  pub column-prices : (j : ℕ) → j < n → Within L (getD (m .column-prices) j (pos 0))
-  pub working : (q : ℕ) → q < n * n → Within L (getD (m .working) q (pos 0))
+-- no price and no working value of a machine is more than L away from 0
+abbrev pub Bounded : ℕ → ℕ → Machine → Type 0
+Bounded n L m = InLimits n L (m .row-prices) (m .column-prices) (m .working)
 
 -- where a search finds a star, it is the row's
 found : {n : ℕ} {star prime : ℕ → ℕ} {marks : List ℕ} → Shows n star prime marks → (i : ℕ) → star-in-row n marks i < n → star-in-row n marks i ≡ star i
@@ -230,11 +230,11 @@ module _ (n : ℕ) (ok : ℕ → ℕ → Bool) (cost : ℕ → ℕ → ℤ) {C :
   -- while a row is uncovered
   bounded : {A B : ℕ} {r c : ℕ → Bool} {star prime : ℕ → ℕ} {m : Machine} → Priced n ok cost m
       → Limits-on n C A B (m .marks) r c (m .row-prices) (m .column-prices) → count r n < n
-      → Shows n star prime (m .marks) → ((i : ℕ) → i < n → star i < n → Zero n ok (m .working) i (star i)) → InLimits n (limit n C A B) m
+      → Shows n star prime (m .marks) → ((i : ℕ) → i < n → star i < n → Zero n ok (m .working) i (star i)) → Bounded n (limit n C A B) m
   bounded {A} {B} {m = m} priced l left shows zeros = record {
-    row-prices = λ i hi. limits-row l left i hi (star-within priced shows zeros i hi);
-    column-prices = limits-column l left;
-    working = λ q hq. let p = place-in n q hq in rw (← place-back n q) (work (q / n) (q % n) (p .0) (p .1));
+    rows = λ i hi. limits-row l left i hi (star-within priced shows zeros i hi);
+    columns = limits-column l left;
+    cells = λ q hq. let p = place-in n q hq in rw (← place-back n q) (work (q / n) (q % n) (p .0) (p .1));
   }
     where
       work : (i j : ℕ) → i < n → j < n → Within (limit n C A B) (cell (pos 0) n (m .working) i j)
@@ -244,19 +244,19 @@ module _ (n : ℕ) (ok : ℕ → ℕ → Bool) (cost : ℕ → ℕ → ℤ) {C :
           (λ t. rw (priced .none i j hi hj t) (within-zero (limit n C A B)))
           (T-or (ok i j))
 
-  pub limits : {A B : ℕ} (m : Machine) → 0 < n → Sound n ok m → Priced n ok cost m → Limited n C A B m → InLimits n (limit n C A B) m
+  pub limits : {A B : ℕ} (m : Machine) → 0 < n → Sound n ok m → Priced n ok cost m → Limited n C A B m → Bounded n (limit n C A B) m
   limits {A} {B} m some sound priced limited = go (m .run .next) (sound .at-next) (limited .at-next)
     where
       -- by the stars alone, and in a phase
-      starred : Starred n ok (m .working) (m .marks) → Between n C A B m → InLimits n (limit n C A B) m
+      starred : Starred n ok (m .working) (m .marks) → Between n C A B m → Bounded n (limit n C A B) m
       starred s l = bounded priced l (omega (arith, count-none n)) s.shows s.zeros
 
       phased : {star row prime prime′ time : ℕ → ℕ} {r c : ℕ → Bool} → Phase n (Zero n ok (m .working)) star row prime time r c
           → count (has-star n star) n < n → Shows n star prime′ (m .marks) → Limits-on n C A B (m .marks) r c (m .row-prices) (m .column-prices)
-          → InLimits n (limit n C A B) m
+          → Bounded n (limit n C A B) m
       phased phase missing shows l = bounded priced l (omega (arith, covers phase)) shows (phase .stars)
 
-      go : (x : Next) → Sound-at n ok x m → Limited-at n C A B x m → InLimits n (limit n C A B) m
+      go : (x : Next) → Sound-at n ok x m → Limited-at n C A B x m → Bounded n (limit n C A B) m
       go Step3 h l = starred (h .0) l
       go Step4 s l = phased s.phase s.missing s.shows l
       go (Step5 i j) s l = phased s.phase s.missing s.shows l

@@ -14,7 +14,8 @@ use Rattle.lines.specs.Count.{count}
 use Rattle.lines.proofs.Tests.{cond-ind, T-true, T-false}
 use Rattle.lines.proofs.Puts.{put, put-case}
 use Rattle.lines.proofs.Counts.{count-ext, count-put, count-le, bit-yes, bit-no}
-use Rattle.lines.proofs.Signed.{P, signed, plus-parts, minus-parts, neg-parts, whole, Within}
+use Rattle.lines.specs.Bounds.{Within}
+use Rattle.lines.proofs.Signed.{P, signed, plus-parts, minus-parts, neg-parts, whole}
 
 -- a cell of working value 0: row price and column price add up to its cost
 pub tight : {C : ℕ} {k w : ℤ} (x y : ℤ) → Within C k → k ≡ x +ℤ y +ℤ w → w ≡ pos 0 → Within C (x +ℤ y)

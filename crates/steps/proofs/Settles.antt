@@ -17,7 +17,8 @@ use Rattle.lines.proofs.Tests.{T-true}
 use Rattle.lines.proofs.Counts.{count-le}
 use Rattle.steps.specs.Steps.{Next, Step3, Step4, Step5, Step6, Paired, NoPairing, Unfinished, Machine, machine, star-in-row, star-columns, star-count, covering, reaching, path, flip, clear-primes, step5, augmenting, zero-column, adjusting, followed, step-at, step, steps}
 use Rattle.steps.proofs.Turns.{OpenZero, NoZero, zero-found, zero-none, step3-ind, step4-ind, step6-ind}
-use Rattle.steps.proofs.Runs.{over, ends}
+use Rattle.steps.specs.Counts.{over}
+use Rattle.steps.proofs.Runs.{ends}
 use Rattle.steps.proofs.Shape.{Shape, shape-step}
 use Rattle.steps.proofs.Adjusted.{lowest-zero}
 use Rattle.steps.proofs.Marks.{find-count}

@@ -1,4 +1,5 @@
 pub mod Lent
+pub mod Rules
 pub mod Refusal
 pub mod Steps
 pub mod Counts

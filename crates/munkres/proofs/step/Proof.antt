@@ -1,6 +1,6 @@
 -- `step` meets its contract: each arm is one step's own equation (`Arms`).
 use mathlib.Core.Path.{ap}
-use Rattle.steps.proofs.Runs.{over}
+use Rattle.steps.specs.Counts.{over}
 use Rattle.munkres.specs.View.{view-next}
 use Rattle.munkres.proofs.GoodLaws.{square-mask, square-working, square-marks, at-step3, at-step4, at-step5, at-path, at-step6}
 use Rattle.munkres.proofs.Arms.{arm-3, arm-4, arm-5, arm-6, arm-end}

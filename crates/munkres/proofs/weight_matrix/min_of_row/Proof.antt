@@ -4,7 +4,7 @@ use mathlib.Core.Path.{_≡_, _∙_}
 use Prim.Native.Nat.{ℕ, _-_, _≤_}
 use native.Mathlib.Omega.{arith}
 use lib.IntN.{ℤ}
-use Rattle.lines.proofs.Signed.{Within}
+use Rattle.lines.specs.Bounds.{Within}
 use Rattle.lines.proofs.Tests.{cases}
 use Rattle.steps.specs.Lent.{allows, cost-at}
 use Rattle.munkres.specs.Least.{least-from}
