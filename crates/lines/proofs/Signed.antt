@@ -2,7 +2,7 @@
 -- An integer z is `P z - N z`. Each fact of integers is a linear fact of those parts, and none needs to know that one of the parts is 0.
 -- `omega (signed, plus-parts a b, ..)` proves a linear goal over the integers: an order, an equation, or a fit.
 use mathlib.Core.Path.{_≡_, refl, sym, ap, subst}
-use mathlib.Core.Bool.{Bool, true, false, cond}
+use mathlib.Core.Bool.{Bool, true, false}
 use Prim.Native.Nat.{ℕ, zero, suc, _+_, _-_, _≤_, _<_, _^_}
 use native.Mathlib.Omega.{arith}
 use lib.Dec.{T, ltb, leb, ltb→lt, nltb→le, leb→le, le→leb, lt→ltb}

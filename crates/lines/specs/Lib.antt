@@ -4,3 +4,4 @@ pub mod First
 pub mod Square
 pub mod Sets
 pub mod Bounds
+pub mod Put

@@ -9,7 +9,7 @@ use Rattle.steps.specs.Steps as S
 use Rattle.steps.specs.Steps.{Run, Machine, machine}
 use Rattle.steps.specs.Counts.{over}
 use Rattle.steps.proofs.Runs.{stays, steps-last}
-use Rattle.steps.proofs.Settles.{left}
+use Rattle.steps.specs.Bounds.{left}
 use Rattle.munkres.specs.Good.{Good, Came}
 use Rattle.munkres.proofs.GoodLaws.{good-step, good-falls}
 

@@ -27,7 +27,7 @@ use Rattle.steps.specs.Outcome.{answer, no-run, given, judged, written, chosen,
 use Rattle.steps.specs.Promise.{Promise}
 use Rattle.steps.specs.Counts.{over}
 use Rattle.steps.proofs.Ends.{paired}
-use Rattle.steps.proofs.Search.{Sound-at}
+use Rattle.steps.specs.Going.{Sound-at}
 use Rattle.steps.proofs.Fresh.{fresh-start}
 use Rattle.steps.proofs.Limited.{limited-start}
 use Rattle.steps.proofs.Theorems.{cost-within}

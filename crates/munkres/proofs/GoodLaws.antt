@@ -19,13 +19,13 @@ use Rattle.steps.specs.Steps as S
 use Rattle.steps.specs.Steps.{Next, Machine, machine, star-in-row, star-count, lowest, followed, lowered, raised}
 use Rattle.steps.specs.Counts.{over}
 use Rattle.steps.proofs.Marks.{find-star, mark-is-star}
-use Rattle.steps.proofs.Path.{Ends}
+use Rattle.steps.specs.Going.{Ends, Starred, Sound-at}
 use Rattle.steps.proofs.Theorems.{ready-ends}
-use Rattle.steps.proofs.Search.{Starred, Sound-at}
 use Rattle.steps.proofs.Pace.{Paced-at, few-stars}
 use Rattle.steps.proofs.Fresh.{fresh-step, first-stars, adjusts-before, primes-before, ceilings-within}
 use Rattle.steps.proofs.Limited.{limited-step, limits}
-use Rattle.steps.proofs.Settles.{left, falls}
+use Rattle.steps.specs.Bounds.{left}
+use Rattle.steps.proofs.Settles.{falls}
 use Rattle.steps.proofs.Budget.{within}
 use Rattle.munkres.specs.Square.{Square}
 use Rattle.munkres.specs.Good.{OneStarARow, Adjusts, Good}

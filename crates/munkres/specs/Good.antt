@@ -20,7 +20,7 @@ use Rattle.steps.specs.Steps.{Next, Step3, Step4, Step5, Step6, Paired, NoPairi
 use Rattle.steps.specs.Outcome.{answer}
 use Rattle.steps.specs.Counts.{over}
 use Rattle.steps.proofs.Fresh.{Fresh}
-use Rattle.steps.proofs.Limited.{Limited}
+use Rattle.steps.specs.Bounds.{Limited}
 use Rattle.munkres.specs.Square.{Flags, Fit64}
 
 -- a star is the first of its row, so its only one

@@ -20,7 +20,8 @@ use Rattle.steps.specs.Outcome.{reached}
 use Rattle.steps.specs.Promise.{largest}
 use Rattle.steps.proofs.Runs.{kept}
 use Rattle.steps.proofs.Limits.{limit-fresh}
-use Rattle.steps.proofs.Limited.{Limited, Bounded, limited-start, limited-step, limits}
+use Rattle.steps.specs.Bounds.{Limited, Bounded}
+use Rattle.steps.proofs.Limited.{limited-start, limited-step, limits}
 use Rattle.steps.proofs.Fresh.{Fresh, fresh-step, fresh-start}
 use Rattle.steps.proofs.Verdicts.{AcceptedCall, accepted-is}
 
@@ -54,7 +55,7 @@ module _ (limit : ℕ) (t : Task) (before : Buffers) where
         kept (t .n) (allowed t) (t .budget) Limited-fresh
         (λ m h. (
           fresh-step (t .n) (allowed t) (cost t) (t .budget) m (h .0),
-          limited-step (t .n) (allowed t) (cost t) within (t .budget) m (h .0 .shape) (h .0 .sound) (h .0 .priced) (h .1),
+          limited-step (t .n) (allowed t) (cost t) within (t .budget) m (h .0 .going .shape) (h .0 .going .sound) (h .0 .going .priced) (h .1),
         ))
         (start (t .n) (allowed t) (cost t))
         (fresh-start (t .n) (allowed t) (cost t) (fit .fit .some) (fit .rows), limited-start (t .n) (allowed t) (cost t) within (fit .rows)) k
@@ -64,7 +65,7 @@ module _ (limit : ℕ) (t : Task) (before : Buffers) where
     unfolding Limited-fresh
     in-limits k =
         let h = limited k in
-        rw (limit-fresh (t .n) most-cost) at (limits (t .n) (allowed t) (cost t) within (reached t k) (fit .fit .some) (h .0 .sound) (h .0 .priced) (h .1))
+        rw (limit-fresh (t .n) most-cost) at (limits (t .n) (allowed t) (cost t) within (reached t k) (fit .fit .some) (h .0 .going .sound) (h .0 .going .priced) (h .1))
 
 -- which is below 2^42 up to n = 256, so that 64 bits hold it
 pub limits-small : (n : ℕ) → n ≤ 256 → largest n < 2 ^ 42

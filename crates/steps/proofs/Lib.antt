@@ -14,6 +14,7 @@ pub mod Limits
 pub mod Start
 pub mod Pace
 pub mod Counted
+pub mod Few
 pub mod Budget
 pub mod RuleLaws
 pub mod Verdicts

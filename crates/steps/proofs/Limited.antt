@@ -15,7 +15,7 @@ use Rattle.lines.specs.First.{any, least}
 use Rattle.lines.specs.Square.{cell}
 use Rattle.lines.specs.Sets.{has, with, without}
 use Rattle.lines.proofs.Tests.{T-or}
-use Rattle.lines.proofs.Puts.{put}
+use Rattle.lines.specs.Put.{put}
 use Rattle.lines.proofs.Counts.{count-none}
 use Rattle.lines.proofs.Firsts.{any-is}
 use Rattle.lines.proofs.Leasts.{least-is}
@@ -23,47 +23,15 @@ use Rattle.lines.specs.Bounds.{Within}
 use Rattle.lines.proofs.Signed.{within-zero}
 use Rattle.lines.proofs.Squares.{place-in, place-back, table-at}
 use Rattle.lines.proofs.Sets.{has-empty, has-those, with-put, without-put}
+use Rattle.steps.specs.Bounds.{Limits-on, Between, During, Limited-at, Limited, Bounded, limit}
 use Rattle.steps.specs.Steps.{Next, Step3, Step4, Step5, Step6, Paired, NoPairing, Unfinished, Machine, machine, star-in-row, star-in-column, star-columns, star-count, row-price, start, covering, reaching, path, flip, clear-primes, step5, augmenting, adjusting, lowered, raised, step-at, step}
-use Rattle.steps.specs.Promise.{InLimits}
-use Rattle.steps.proofs.Turns.{OpenZero, Lowest, step3-ind, step4-ind, step6-ind}
-use Rattle.steps.proofs.Matching.{has-star}
-use Rattle.steps.proofs.Marks.{Shows, find-star, find-row, find-count}
-use Rattle.steps.proofs.Phase.{Phase, covers}
-use Rattle.steps.proofs.Shape.{Shape}
+use Rattle.steps.specs.Going.{OpenZero, has-star, Shows, Phase, Shape, Priced, Zero, Starred, Search, Ready, Sound, Sound-at}
+use Rattle.steps.proofs.Turns.{Lowest, step3-ind, step4-ind, step6-ind}
+use Rattle.steps.proofs.Marks.{find-star, find-row, find-count}
+use Rattle.steps.proofs.Phase.{covers}
 use Rattle.steps.proofs.Adjusted.{lowered-at, raised-at}
-use Rattle.steps.proofs.Priced.{Priced}
-use Rattle.steps.proofs.Search.{Zero, Starred, Search, Ready, Sound, Sound-at, shown, row′, flipped, augmented, one-star-more}
-use Rattle.steps.proofs.Limits.{Limits, limit, tight, limits-start, limits-primed, limits-augmented, limits-adjusted, limits-same, limits-column, limits-row, limits-work}
-
-module _ (n C A B : ℕ) where
-  -- with the stars of these marks, these covered rows and columns, and these prices
-  abbrev pub Limits-on : List ℕ → (ℕ → Bool) → (ℕ → Bool) → List ℤ → List ℤ → Type 0
-  Limits-on marks r c row-prices column-prices =
-      Limits n C A B (star-in-row n marks) (star-in-column n marks) r c (λ i. getD row-prices i (pos 0)) (λ j. getD column-prices j (pos 0))
-
-  -- between phases, with the covers that step 3 makes, and in a phase
-  abbrev pub Between : Machine → Type 0
-  Between m = Limits-on (m .marks) (λ i. false) (λ j. ltb (star-in-column n (m .marks) j) n) (m .row-prices) (m .column-prices)
-
-  abbrev pub During : Machine → Type 0
-  During m = Limits-on (m .marks) (has (m .run .rows)) (has (m .run .columns)) (m .row-prices) (m .column-prices)
-
-  -- by what is next
-  abbrev pub Limited-at : Next → Machine → Type 0
-  Limited-at Step3 m = Between m
-  Limited-at Step4 m = During m
-  Limited-at (Step5 i j) m = During m
-  Limited-at Step6 m = During m
-  Limited-at Paired m = Between m
-  Limited-at NoPairing m = During m
-  Limited-at Unfinished m = During m
-
-  pub record Limited (m : Machine) : Type 0 where
-    pub at-next : Limited-at (m .run .next) m
-
--- no price and no working value of a machine is more than L away from 0
-abbrev pub Bounded : ℕ → ℕ → Machine → Type 0
-Bounded n L m = InLimits n L (m .row-prices) (m .column-prices) (m .working)
+use Rattle.steps.proofs.Search.{shown, row′, flipped, augmented, one-star-more}
+use Rattle.steps.proofs.Limits.{tight, limits-start, limits-primed, limits-augmented, limits-adjusted, limits-same, limits-column, limits-row, limits-work}
 
 -- where a search finds a star, it is the row's
 found : {n : ℕ} {star prime : ℕ → ℕ} {marks : List ℕ} → Shows n star prime marks → (i : ℕ) → star-in-row n marks i < n → star-in-row n marks i ≡ star i

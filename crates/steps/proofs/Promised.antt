@@ -6,8 +6,7 @@ use Prim.Native.Nat.{ℕ, _-_, _*_, _/_, _<_}
 use native.Mathlib.Omega.{arith}
 use lib.Dec.{T}
 use lib.IntN.{pos}
-use Rattle.lines.specs.Sets.{has, with, all, rest}
-use Rattle.assignment.specs.Problem.{total}
+use Rattle.lines.specs.Sets.{has, with, all}
 use Rattle.assignment.proofs.Blocks.{block-impossible}
 use Rattle.steps.specs.declared.Answer.{Answer}
 use Rattle.steps.specs.Lent.{Task, Buffers, allowed, cost}
@@ -15,7 +14,7 @@ use Rattle.steps.specs.Refusal.{Verdict, refused, dead, accepted, verdic
 use Rattle.steps.specs.Steps.{Next, Paired, NoPairing, Unfinished, End, paired, no-pairing, unfinished, Machine}
 use Rattle.steps.specs.Outcome.{answer, no-run, given, written, returned, reached, judged, Outcome}
 use Rattle.steps.specs.Promise.{Fit, Promise}
-use Rattle.steps.proofs.Search.{Sound-at}
+use Rattle.steps.specs.Going.{Sound-at}
 use Rattle.steps.proofs.Settles.{settles}
 use Rattle.steps.proofs.Start.{sound-start}
 use Rattle.steps.proofs.Shape.{shape-start}
@@ -107,18 +106,18 @@ module _ (limit : ℕ) (t : Task) (before : Buffers) (k : ℕ) where
     fit : AcceptedCall limit t before
     fit = accepted-is limit t before v
 
-    going : Fresh n (allowed t) (cost t) m
-    going = fresh n (allowed t) (cost t) (fit .fit .some) (fit .rows) (t .budget) k
+    fresh-run : Fresh n (allowed t) (cost t) m
+    fresh-run = fresh n (allowed t) (cost t) (fit .fit .some) (fit .rows) (t .budget) k
 
     exactly : (e : End) → m .run .next ≡ at-end e → let o = returned t before m e in Outcome limit t before (o .0) (o .1)
     exactly e there = record { count = k; exact = ap (judged t before k) v ∙ is-returned t before k (record { end = e; there = there; value = refl }) }
 
     -- the invariants, by what is next
     sound-at : (x : Next) → m .run .next ≡ x → Sound-at n (allowed t) x m
-    sound-at x e = subst (λ x. Sound-at n (allowed t) x m) e (going .sound .at-next)
+    sound-at x e = subst (λ x. Sound-at n (allowed t) x m) e (fresh-run .going .sound .at-next)
 
     paced-at : (x : Next) → m .run .next ≡ x → Paced-at n (allowed t) (first-stars n (allowed t) (cost t)) adjusts-before primes-before x m
-    paced-at x e = subst (λ x. Paced-at n (allowed t) (first-stars n (allowed t) (cost t)) adjusts-before primes-before x m) e (going .paced .at-next)
+    paced-at x e = subst (λ x. Paced-at n (allowed t) (first-stars n (allowed t) (cost t)) adjusts-before primes-before x m) e (fresh-run .paced .at-next)
 
     -- a promise about what an end returns
     abbrev Keeps : End → Type 0
@@ -132,7 +131,7 @@ module _ (limit : ℕ) (t : Task) (before : Buffers) (k : ℕ) where
           exact = exactly paired e;
           pairing = λ z. E.paired n (allowed t) (s .0) (s .1);
           totalled = λ z. refl;
-          least = λ z. paired-least n (allowed t) (going .priced) (s .0) (s .1);
+          least = λ z. paired-least n (allowed t) (fresh-run .going .priced) (s .0) (s .1);
           block = λ z. absurd (omega arith);
           impossible = λ z. absurd (omega arith);
           settled = record { passed = λ f. inl refl; ran = λ z. v };
@@ -140,9 +139,9 @@ module _ (limit : ℕ) (t : Task) (before : Buffers) (k : ℕ) where
           ceilings = ceilings-full n (allowed t) (cost t) (fit .fit .some) (fit .rows) (rw (s .1) at (paced-at Paired e));
           unfinished = λ z. absurd (omega arith);
           enough = λ h z. omega arith;
-          prices = λ v. (price-list n (allowed t) (going .priced), going .priced .none);
+          prices = λ v. (price-list n (allowed t) (fresh-run .going .priced), fresh-run .going .priced .none);
           limits = λ v. in-limits limit t before v k;
-          adds-up = λ z. paired-adds-up n (allowed t) (going .priced) (s .0) (s .1);
+          adds-up = λ z. paired-adds-up n (allowed t) (fresh-run .going .priced) (s .0) (s .1);
         }
 
     blocked-keeps : m .run .next ≡ NoPairing → Keeps no-pairing
@@ -163,7 +162,7 @@ module _ (limit : ℕ) (t : Task) (before : Buffers) (k : ℕ) where
           ceilings = ceilings-within n (allowed t) (cost t) (fit .fit .some) (fit .rows) (paced-at NoPairing e) (few-stars n (allowed t) (s .0)) few (omega arith);
           unfinished = λ z. absurd (omega arith);
           enough = λ h z. omega arith;
-          prices = λ v. (price-list n (allowed t) (going .priced), going .priced .none);
+          prices = λ v. (price-list n (allowed t) (fresh-run .going .priced), fresh-run .going .priced .none);
           limits = λ v. in-limits limit t before v k;
           adds-up = λ z. absurd (omega arith);
         }
@@ -190,7 +189,7 @@ module _ (limit : ℕ) (t : Task) (before : Buffers) (k : ℕ) where
           ceilings = ceilings-within n (allowed t) (cost t) (fit .fit .some) (fit .rows) p few rows (omega arith);
           unfinished = λ z. (all, omega arith);
           enough = λ h z. omega arith;
-          prices = λ v. (price-list n (allowed t) (going .priced), going .priced .none);
+          prices = λ v. (price-list n (allowed t) (fresh-run .going .priced), fresh-run .going .priced .none);
           limits = λ v. in-limits limit t before v k;
           adds-up = λ z. absurd (omega arith);
         }

@@ -1,10 +1,10 @@
 -- Laws of a list of rules: one that applies decides, one that does not is passed over; and what is true of the verdict.
-use mathlib.Core.Path.{_≡_, refl, _∙_}
-use mathlib.Core.Bool.{Bool, true, false, not}
+use mathlib.Core.Path.{_≡_}
+use mathlib.Core.Bool.{true, false, not}
 use mathlib.Core.List.{List, [], _∷_}
 use Prim.Native.Nat.{ℕ}
 use lib.Dec.{T}
-use Rattle.lines.proofs.Tests.{T-false, cond-ind}
+use Rattle.lines.proofs.Tests.{cond-ind}
 use Rattle.steps.specs.Rules.{Rule, by-rules}
 
 infixr 60 _⨾_

@@ -1,29 +1,28 @@
 -- The theorems about a call that stand beside the promise, each by its name. `answered` and `promised` are in Promised.antt.
 use mathlib.Core.Path.{_≡_, refl, sym, ap, subst, _∙_}
 use mathlib.Core.Logic.{_≢_}
-use mathlib.Core.Bool.{Bool, false}
+use mathlib.Core.Bool.{Bool}
 use mathlib.Core.List.{List}
-use mathlib.Core.Option.{some, Option·some-injective, Option·none-ne-some}
-use Prim.Native.Nat.{ℕ, suc, _+_, _-_, _*_, _^_, _≤_, _<_, min}
+use Prim.Native.Nat.{ℕ, _+_, _-_, _*_, _≤_, _<_, min}
 use native.Mathlib.Omega.{arith}
-use lib.Dec.{T, T-not, eqb}
-use lib.IntN.{ℤ, pos, negsuc}
-use lib.ListN.{length, getD}
-use Rattle.lines.proofs.Squares.{place-lt, table-at}
+use lib.IntN.{ℤ}
+use lib.ListN.{length}
+use Rattle.lines.proofs.Squares.{table-at}
 use Rattle.steps.specs.declared.Answer.{Answer}
-use Rattle.steps.specs.Lent.{Task, Buffers, allowed, cost, allows, cost-at}
-use Rattle.steps.specs.Refusal.{accepted, out-of-range, bad-cost, verdict}
+use Rattle.steps.specs.Lent.{Task, Buffers, allowed, cost}
+use Rattle.steps.specs.Refusal.{accepted, verdict}
 use Rattle.steps.specs.Steps.{Unfinished, End, paired, no-pairing, unfinished, Machine, star-in-column, prime-in-row, star-in-row, start, path}
 use Rattle.steps.specs.Counts.{adjusts, primes, augments, turns}
 use Rattle.steps.specs.Outcome.{given, returned, reached, judged, Outcome}
 use Rattle.steps.specs.Promise.{Promise}
 use Rattle.steps.proofs.Runs.{kept}
-use Rattle.steps.proofs.Shape.{Shape, shape-start, shape-step}
+use Rattle.steps.specs.Going.{Shape, Ends, Sound, Sound-at, Ready}
+use Rattle.steps.proofs.Shape.{shape-start, shape-step}
 use Rattle.steps.proofs.Start.{sound-start}
 use Rattle.steps.proofs.Ends as E
 use Rattle.steps.proofs.Marks.{find-prime}
-use Rattle.steps.proofs.Path.{Ends, star-off, path-length, path-ends, prime-there}
-use Rattle.steps.proofs.Search.{Sound, Sound-at, sound-step, Ready, time′, prime′, chained, early, at-prime}
+use Rattle.steps.proofs.Path.{star-off, path-length, path-ends, prime-there}
+use Rattle.steps.proofs.Search.{sound-step, time′, prime′, chained, early, at-prime}
 use Rattle.steps.proofs.Budget.{Spent, spent, spent-start}
 use Rattle.steps.proofs.Counted.{counted}
 use Rattle.steps.proofs.Verdicts.{SameLengths, with-budget, with-costs, SameAllowed}

@@ -1,21 +1,19 @@
 -- What a verdict tells, and what it does not depend on: the buffers' contents, the budget, the costs of forbidden cells.
-use mathlib.Core.Path.{_≡_, refl, sym, ap}
+use mathlib.Core.Path.{_≡_, sym, ap}
 use mathlib.Core.Logic.{_≢_}
 use mathlib.Core.Bool.{Bool, not, _&&_}
 use mathlib.Core.List.{List}
-use Prim.Native.Nat.{ℕ, _*_, _≤_, _<_}
+use Prim.Native.Nat.{ℕ, _*_, _<_}
 use native.Mathlib.Omega.{arith}
 use borrow.Author.Tests.{eq-eqb}
 use lib.Dec.{T, T-not, not-T, ltb, ltb→lt, eqb, eqb→eq, nltb→le}
 use lib.IntN.{ℤ, pos}
 use lib.ListN.{length, getD}
 use Rattle.lines.specs.First.{any}
-use Rattle.lines.proofs.Tests.{cond-ind, and-same, T-yes, both, and-left, and-right, eqb-yes, eqb-no}
+use Rattle.lines.proofs.Tests.{cond-ind, and-same, T-yes, and-left, and-right, eqb-yes, eqb-no}
 use Rattle.lines.proofs.Firsts.{first-is, any-is, any-no, first-ext}
 use Rattle.steps.specs.Lent.{Task, task, Buffers, allowed, allows}
-use Rattle.steps.specs.Rules.{Rule}
 use Rattle.steps.specs.Refusal.{Verdict, refused, dead, accepted, out-of-range, has-room, room, bad-mask, bad-cost, dead-row, rules, Passed, by-rows, judgement, verdict}
-use Rattle.steps.specs.Promise.{Fit}
 use Rattle.steps.proofs.RuleLaws.{Every, all, _⨾_, Clear, ruled}
 
 -- ---- what a verdict tells

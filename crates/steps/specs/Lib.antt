@@ -5,5 +5,7 @@ pub mod Steps
 pub mod Counts
 pub mod Outcome
 pub mod Promise
+pub mod Going
+pub mod Bounds
 pub mod Samples
 pub mod FurtherSamples

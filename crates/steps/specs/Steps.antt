@@ -6,7 +6,7 @@ use Prim.Native.Nat.{ℕ, zero, suc, _+_, _*_, _/_, _%_}
 use lib.Dec.{eqb, ltb}
 use lib.IntN.{ℤ, pos, negsuc, _+ℤ_, _-ℤ_}
 use lib.ListN.{getD, set}
-use Rattle.lines.specs.First.{first, any, least}
+use Rattle.lines.specs.First.{first, least}
 use Rattle.lines.specs.Count.{count}
 use Rattle.lines.specs.Square.{cell, table, square, each}
 use Rattle.lines.specs.Sets.{has, with, without, those}
