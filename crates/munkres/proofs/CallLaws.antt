@@ -40,7 +40,7 @@ use Rattle.munkres.specs.declared.Verdict.the-variants.{Dead}
 use Rattle.munkres.specs.View.{view-next, view-verdict, lent}
 use Rattle.munkres.specs.Square.{Square, Flags}
 use Rattle.munkres.specs.Good.{Startable, Given, Good, Came}
-use Rattle.munkres.proofs.Masks.{mask-flag}
+use Rattle.steps.proofs.Masks.{mask-flag}
 
 -- ---- what an end gives back
 

@@ -18,6 +18,7 @@ pub mod Few
 pub mod Budget
 pub mod RuleLaws
 pub mod Verdicts
+pub mod Masks
 pub mod Returned
 pub mod Starts
 pub mod Answers

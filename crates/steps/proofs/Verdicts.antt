@@ -13,7 +13,7 @@ use Rattle.lines.specs.First.{any}
 use Rattle.lines.proofs.Tests.{cond-ind, and-same, T-yes, and-left, and-right, eqb-yes, eqb-no}
 use Rattle.lines.proofs.Firsts.{first-is, any-is, any-no, first-ext}
 use Rattle.steps.specs.Lent.{Task, task, Buffers, allowed, allows}
-use Rattle.steps.specs.Refusal.{Verdict, refused, dead, accepted, out-of-range, has-room, room, bad-mask, bad-cost, dead-row, rules, Passed, by-rows, judgement, verdict}
+use Rattle.steps.specs.Refusal.{Verdict, refused, dead, accepted, out-of-range, has-room, room, bad-mask, bad-cost, dead-row, rules, Admitted, by-rows, judgement, verdict}
 use Rattle.steps.proofs.RuleLaws.{Every, all, _⨾_, Clear, ruled}
 
 -- ---- what a verdict tells
@@ -38,7 +38,7 @@ module _ (limit n : ℕ) (costs : List ℤ) (mask : List ℕ) (others : Bool) wh
   right-lengths = eqb (length costs) (n * n) && eqb (length mask) (n * n) && others
 
   -- rule by rule: its number, and that what passed does not meet it
-  each-rule : Every (λ r. T (is-refusal (r .number)) × (Passed limit n costs mask others → T (not (r .applies)))) (rules limit n costs mask others)
+  each-rule : Every (λ r. T (is-refusal (r .number)) × (Admitted limit n costs mask others → T (not (r .applies)))) (rules limit n costs mask others)
   unfolding rules
   each-rule =
       (tt, λ p. eqb-no n 0 (positive (p .some)))
@@ -51,12 +51,12 @@ module _ (limit n : ℕ) (costs : List ℤ) (mask : List ℕ) (others : Bool) wh
       positive : 0 < n → n ≢ 0
       positive h e = omega arith
 
-      lengths : Passed limit n costs mask others → T right-lengths
+      lengths : Admitted limit n costs mask others → T right-lengths
       lengths p = rw (eq-eqb _ _ (p .costs-length), eq-eqb _ _ (p .mask-length)) (p .room)
 
-  pub clear-passed : Clear (rules limit n costs mask others) → Passed limit n costs mask others
+  pub clear-admitted : Clear (rules limit n costs mask others) → Admitted limit n costs mask others
   unfolding rules
-  clear-passed (c1 ⨾ c2 ⨾ c3 ⨾ c4 ⨾ c5 ⨾ all) =
+  clear-admitted (c1 ⨾ c2 ⨾ c3 ⨾ c4 ⨾ c5 ⨾ all) =
       let sizes = T-yes right-lengths (λ u. T-not (not right-lengths) c3 u) in
       let pair = and-left (eqb (length costs) (n * n) && eqb (length mask) (n * n)) others sizes in
       record {
@@ -74,12 +74,12 @@ module _ (limit n : ℕ) (costs : List ℤ) (mask : List ℕ) (others : Bool) wh
 
   -- neither refused nor answered at once
   pub record Accepted : Type 0 where
-    pub fit : Passed limit n costs mask others
+    pub fit : Admitted limit n costs mask others
     pub rows : (i : ℕ) → i < n → T (any (allows n mask i) n)
 
   abbrev pub Tells : Verdict → Type 0
-  Tells (refused number place) = T (is-refusal number) × (Passed limit n costs mask others → ⊥)
-  Tells (dead row) = Passed limit n costs mask others × (row < n) × T (not (any (allows n mask row) n))
+  Tells (refused number place) = T (is-refusal number) × (Admitted limit n costs mask others → ⊥)
+  Tells (dead row) = Admitted limit n costs mask others × (row < n) × T (not (any (allows n mask row) n))
   Tells accepted = Accepted
 
   pub judgement-tells : Tells (judgement limit n costs mask others)
@@ -87,7 +87,7 @@ module _ (limit n : ℕ) (costs : List ℤ) (mask : List ℕ) (others : Bool) wh
   judgement-tells =
       ruled refused Tells _ (by-rows n mask) (λ r q t. (q .0, λ p. T-not (r .applies) (q .1 p) t)) (rules limit n costs mask others) each-rule
       (λ clear.
-      let fit = clear-passed clear in
+      let fit = clear-admitted clear in
       cond-ind Tells (any (dead-row n mask) n) _ _
       (λ t. let h = ltb→lt _ n t in (fit, h, first-is (dead-row n mask) n .hit h))
       (λ t. record {

@@ -15,12 +15,12 @@ use Rattle.assignment.specs.Problem.{AllowedPairing, NoneBelow, Impossible, Blo
 use Rattle.assignment.specs.Prices.{PriceList}
 use Rattle.steps.specs.declared.Answer.{Answer}
 use Rattle.steps.specs.Lent.{Task, Buffers, most-cost, allowed, cost}
-use Rattle.steps.specs.Refusal.{accepted, room, Passed, verdict}
+use Rattle.steps.specs.Refusal.{accepted, room, Admitted, verdict}
 use Rattle.steps.specs.Outcome.{Outcome}
 
 -- what the rules let pass
 abbrev pub Fit : ℕ → Task → Buffers → Type 0
-Fit limit t before = Passed limit (t .n) (t .costs) (t .mask) (room (t .n * t .n) (t .n) before)
+Fit limit t before = Admitted limit (t .n) (t .costs) (t .mask) (room (t .n * t .n) (t .n) before)
 
 abbrev pub row-price-at : Buffers → ℕ → ℤ
 row-price-at b i = getD (b .row-prices) i (pos 0)

@@ -55,7 +55,7 @@ rules limit n costs mask others =
     ∷ []
 
 -- what the rules let pass
-pub record Passed (limit n : ℕ) (costs : List ℤ) (mask : List ℕ) (others : Bool) : Type 0 where
+pub record Admitted (limit n : ℕ) (costs : List ℤ) (mask : List ℕ) (others : Bool) : Type 0 where
   pub some : 0 < n
   pub most : n ≤ limit
   pub costs-length : length costs ≡ n * n

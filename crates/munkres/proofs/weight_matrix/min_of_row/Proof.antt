@@ -10,7 +10,7 @@ use Rattle.steps.specs.Lent.{allows, cost-at}
 use Rattle.munkres.specs.Least.{least-from}
 use Rattle.munkres.specs.declared.weight_matrix.Least.the-variants.{Value, Nothing}
 use Rattle.lines.proofs.Bounds.{RowFits, row-fits}
-use Rattle.munkres.proofs.Masks.{allows-yes, allows-no}
+use Rattle.steps.proofs.Masks.{allows-yes, allows-no}
 use Rattle.munkres.proofs.Wide.{wide-fits, wide-back, wide-within}
 use Rattle.munkres.proofs.Values.{from-take, from-skip, lesser-holds}
 use Rattle.munkres.proofs.weight_matrix.min_of_row.Statement.{statement}
