@@ -139,6 +139,7 @@ judged-larger t before b′ accepted k o h ne e =
 
 pub larger-budget : {limit : ℕ} {t : Task} {before : Buffers} {a : Answer} {after : Buffers} (b′ : ℕ) → t .budget ≤ b′ → a .number ≢ 7
     → Outcome limit t before a after → Outcome limit (with-budget t b′) before a after
+unfolding verdict
 larger-budget {limit} {t} {before} {a} {after} b′ h ne x = record {
   count = x .count;
   exact = judged-larger t before b′ (verdict t limit before) (x .count) (a, after) h ne (x .exact);

@@ -105,6 +105,7 @@ module _ (limit : ℕ) (t : Task) (b : Buffers) where
   TellsCall = Tells limit (t .n) (t .costs) (t .mask) (room (t .n * t .n) (t .n) b)
 
   pub verdict-tells : TellsCall (verdict t limit b)
+  unfolding verdict
   verdict-tells = judgement-tells limit (t .n) (t .costs) (t .mask) (room (t .n * t .n) (t .n) b)
 
   pub accepted-is : verdict t limit b ≡ accepted → AcceptedCall
@@ -165,6 +166,7 @@ pub record SameLengths (b b′ : Buffers) : Type 0 where
   pub column-prices : length (b .column-prices) ≡ length (b′ .column-prices)
 
 pub verdict-contents : (limit : ℕ) (t : Task) (b b′ : Buffers) → SameLengths b b′ → verdict t limit b ≡ verdict t limit b′
+unfolding verdict
 verdict-contents limit t b b′ s = rw (s .working, s .marks, s .columns, s .row-prices, s .column-prices)
 
 -- ---- another budget: no rule looks at it
@@ -187,5 +189,5 @@ unfolding bad-cost
 bad-cost-same t costs′ s q h = and-same (eqb (getD (t .mask) q 1) 1) _ _ (λ u. ap out-of-range (sym (s .value q h u)))
 
 pub verdict-costs : (limit : ℕ) (t : Task) (b : Buffers) (costs′ : List ℤ) → SameAllowed t costs′ → verdict (with-costs t costs′) limit b ≡ verdict t limit b
-unfolding judgement rules any
+unfolding verdict judgement rules any
 verdict-costs limit t b costs′ s = rw (first-ext (bad-cost costs′ (t .mask)) (bad-cost (t .costs) (t .mask)) (t .n * t .n) (bad-cost-same t costs′ s), ← s .size)

@@ -72,5 +72,5 @@ by-rows n mask = cond (any (dead-row n mask) n) (dead (first (dead-row n mask) n
 unfoldable pub judgement : ℕ → ℕ → List ℤ → List ℕ → Bool → Verdict
 judgement limit n costs mask others = by-rules refused (rules limit n costs mask others) (by-rows n mask)
 
-abbrev pub verdict : Task → ℕ → Buffers → Verdict
+unfoldable pub verdict : Task → ℕ → Buffers → Verdict
 verdict t limit b = judgement limit (t .n) (t .costs) (t .mask) (room (t .n * t .n) (t .n) b)

@@ -173,7 +173,7 @@ read (some o) = some (answer-read (o .0), buffers-read (o .1))
 -- 99 steps are more than any sample needs: at an end the machine stays as it is
 unfoldable pub outcome : Task → Buffers → Option (Answer × Buffers)
 unfolding sum sumℤ bit count first-on first any least-on least table square each-from each has with without all rest those total allows cost-at
-    out-of-range has-room bad-mask bad-cost dead-row rules by-rules by-rows judgement is-zero star-in-row star-in-column prime-in-row star-columns star-count row-price excess
+    out-of-range has-room bad-mask bad-cost dead-row rules by-rules by-rows judgement verdict is-zero star-in-row star-in-column prime-in-row star-columns star-count row-price excess
     zero-at free-zero star-row step2 start step3 uncovered covering reaching zero-in-column zero-column step4 clear-primes augmenting path flip step5
     adjusting follow lowered raised lowest followed step6 step-at step steps given written returned judged read
 outcome t before = read (judged t before 99 (verdict t 64 before))

@@ -37,7 +37,7 @@ enum-told-3 c = search needs
 step-6-requires : tie.Need-step-6-requires
 step-6-requires c κs = let g = c .before .before .before .before .before .before .before .pre in
     let e = ap view-next (c .before .before .before .enum-told3 .given .1) in
-    (square-mask g, square-working g, g .fresh .shape .row-prices, g .fresh .shape .column-prices, g .spare, at-step6 g e, g .some, g .flags)
+    (square-mask g, square-working g, g .going .shape .row-prices, g .going .shape .column-prices, g .spare, at-step6 g e, g .some, g .flags)
 
 enum-told-4 : tie.Need-enum-told-4
 enum-told-4 c = search needs
