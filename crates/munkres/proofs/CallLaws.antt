@@ -29,9 +29,10 @@ use Rattle.steps.proofs.Fresh.{going-start}
 use Rattle.steps.proofs.Few.{most-steps, few-none, few-small}
 use Rattle.steps.proofs.Limited.{limited-start}
 use Rattle.steps.proofs.FreshLimits.{cost-within}
-use Rattle.steps.proofs.Verdicts.{judgement-tells, AcceptedCall, accepted-is, Room, room-of}
+use Rattle.steps.proofs.Verdicts.{judgement-tells, AcceptedCall, accepted-is}
 use Rattle.steps.proofs.Masks.{mask-flag}
 use Rattle.steps.proofs.Promised.{promised}
+use Rattle.rules.proofs.Rooms.{Room, room-of}
 use Rattle.rules.specs.declared.Verdict.{Verdict}
 use Rattle.rules.specs.declared.Verdict.the-variants.{Dead}
 use Rattle.rules.specs.View.{view-verdict}

@@ -13,7 +13,7 @@ use Rattle.lines.specs.First.{any}
 use Rattle.lines.proofs.Tests.{cond-ind, and-same, T-yes, and-left, and-right, eqb-yes, eqb-no}
 use Rattle.lines.proofs.Firsts.{first-is, any-is, any-no, first-ext}
 use Rattle.steps.specs.Lent.{Task, task, Buffers, allowed, allows}
-use Rattle.steps.specs.Refusal.{Verdict, refused, dead, accepted, out-of-range, has-room, room, bad-mask, bad-cost, dead-row, rules, Admitted, by-rows, judgement, verdict}
+use Rattle.steps.specs.Refusal.{Verdict, refused, dead, accepted, out-of-range, room, bad-mask, bad-cost, dead-row, rules, Admitted, by-rows, judgement, verdict}
 use Rattle.steps.proofs.RuleLaws.{Every, all, _⨾_, Clear, ruled}
 
 -- ---- what a verdict tells
@@ -110,51 +110,6 @@ module _ (limit : ℕ) (t : Task) (b : Buffers) where
 
   pub accepted-is : verdict t limit b ≡ accepted → AcceptedCall
   accepted-is e = rw e at verdict-tells
-
--- ---- the room
-
-pub record HasRoom (cells lines working marks columns row-prices column-prices : ℕ) : Type 0 where
-  pub working-cells : working ≡ cells
-  pub marks-cells : marks ≡ cells
-  pub columns-lines : columns ≡ lines
-  pub row-prices-lines : row-prices ≡ lines
-  pub column-prices-lines : column-prices ≡ lines
-
-abbrev pub Room : ℕ → ℕ → Buffers → Type 0
-Room cells lines b = HasRoom cells lines (length (b .working)) (length (b .marks)) (length (b .columns)) (length (b .row-prices)) (length (b .column-prices))
-
-module _ (cells lines working marks columns row-prices column-prices : ℕ) where
-  pub room-is : T (has-room cells lines working marks columns row-prices column-prices) → HasRoom cells lines working marks columns row-prices column-prices
-  unfolding has-room
-  room-is h =
-      let x1 = eqb working cells in
-      let x2 = x1 && eqb marks cells in
-      let x3 = x2 && eqb columns lines in
-      let x4 = x3 && eqb row-prices lines in
-      let h4 = and-left x4 _ h in
-      let h3 = and-left x3 _ h4 in
-      let h2 = and-left x2 _ h3 in
-      record {
-        working-cells = eqb→eq _ _ (and-left x1 _ h2);
-        marks-cells = eqb→eq _ _ (and-right x1 _ h2);
-        columns-lines = eqb→eq _ _ (and-right x2 _ h3);
-        row-prices-lines = eqb→eq _ _ (and-right x3 _ h4);
-        column-prices-lines = eqb→eq _ _ (and-right x4 _ h);
-      }
-
-  pub is-room : HasRoom cells lines working marks columns row-prices column-prices → T (has-room cells lines working marks columns row-prices column-prices)
-  unfolding has-room
-  is-room r =
-      rw (
-        eq-eqb _ _ (r .working-cells),
-        eq-eqb _ _ (r .marks-cells),
-        eq-eqb _ _ (r .columns-lines),
-        eq-eqb _ _ (r .row-prices-lines),
-        eq-eqb _ _ (r .column-prices-lines),
-      ) tt
-
-pub room-of : (cells lines : ℕ) (b : Buffers) → T (room cells lines b) → Room cells lines b
-room-of cells lines b = room-is cells lines _ _ _ _ _
 
 -- ---- the same verdict: other contents
 
