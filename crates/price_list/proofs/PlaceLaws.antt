@@ -1,14 +1,8 @@
--- The places of cells and prices lie in their buffers; a cost as a 64-bit number.
-use mathlib.Core.Path.{_≡_}
+-- The places of cells and prices lie in their buffers.
 use mathlib.Core.List.{List}
-use Prim.Native.Nat.{ℕ, _+_, _*_, _≤_, _<_, _^_}
+use Prim.Native.Nat.{ℕ, _+_, _*_, _≤_, _<_}
 use native.Mathlib.Omega.{arith}
-use lib.IntN.{ℤ}
 use lib.ListN.{getD}
-use lib.Signed.{mag}
-use mir.Syntax.{w32, w64}
-use mir.Val.{SFits, toZ, ofZ}
-use mir.Facts.{toZ-ofZ}
 use Rattle.lines.proofs.Bounds.{row-fits}
 use Rattle.price_list.specs.Listed.{Listed}
 
@@ -27,14 +21,3 @@ cell-place n row event h = place-fits n row event (h .0) (h .1) (h .2)
 
 pub pair-place : {n : ℕ} {columns : List ℕ} → Listed n columns → (row : ℕ) → row < n → Place n row (getD columns row 0)
 pair-place {n} {columns} p row h = place-fits n row (getD columns row 0) (p .small) h (p .below row h)
-
--- an `i32` as an `i64`: what the cast asks
-pub wide-fits : (z : ℤ) → mag z < 2 ^ 31 → SFits w64 (toZ w32 (ofZ w32 z))
-wide-fits z h = rw (toZ-ofZ {w = w32} {z = z} (record { sfits = h })) (record { sfits = omega arith })
-
--- and what comes of it, of the cost and of a price
-pub back : (z : ℤ) → mag z < 2 ^ 63 → toZ w64 (ofZ w64 z) ≡ z
-back z h = toZ-ofZ (record { sfits = h })
-
-pub wide-back : (z : ℤ) → mag z < 2 ^ 31 → toZ w64 (ofZ w64 (toZ w32 (ofZ w32 z))) ≡ z
-wide-back z h = rw (toZ-ofZ {w = w32} {z = z} (record { sfits = h })) (back z (omega arith))

@@ -5,10 +5,12 @@ use Prim.Native.Nat.{_-_, _≤_}
 use native.Mathlib.Omega.{arith}
 use lib.Dec.{eqb}
 use lib.IntN.{pos}
+use mir.Syntax.{w32}
 use Rattle.lines.proofs.Rows.{RowPassed, row-none, row-store, row-all}
 use Rattle.lines.proofs.Bounds.{RowFits, row-fits}
+use Rattle.lines.proofs.Wide.{back}
 use Rattle.storm_case.specs.Case.{pair-cost, mask-byte}
-use Rattle.storm_case.proofs.CellLaws.{full, full-view, back32, small-error, cell-is}
+use Rattle.storm_case.proofs.CellLaws.{full, full-view, small-error, cell-is}
 use Rattle.storm_case.proofs.cells.fill_row.Statement.{statement}
 use Rattle.storm_case.proofs.cells.fill_row.Tie as tie
 
@@ -151,7 +153,7 @@ loop-again c =
     (f .before .u16-at .ensures) (f .u32-at .ensures) (r .before .u16-at2 .ensures) (r .u32-at2 .ensures) (p .before .difference .ensures) (p .may-pair .ensures) in (
       l .inv .0,
       search needs,
-      row-store _ _ _ _ _ _ _ _ k (omega (arith, l .inv .0 .end, l .inv .2 .row .long, s .pre .4)) (back32 (cost .result) (cost .ok) ∙ cost .ensures ∙ e .0) (l .inv .2),
+      row-store _ _ _ _ _ _ _ _ k (omega (arith, l .inv .0 .end, l .inv .2 .row .long, s .pre .4)) (back w32 (cost .result) (cost .ok) ∙ cost .ensures ∙ e .0) (l .inv .2),
       row-store _ _ _ _ _ _ _ _ k (omega (arith, l .inv .0 .end, l .inv .3 .row .long, s .pre .5)) (c .mask-of .ensures ∙ e .1) (l .inv .3),
     )
 
