@@ -14,7 +14,7 @@ use Rattle.storm_case.specs.declared.Hut.the-variants.{At, Absent}
 use Rattle.storm_case.specs.declared.scan.Judged.{Judged}
 use Rattle.storm_case.specs.declared.scan.Judged.the-variants.{More, Refused, Accepted}
 use Rattle.storm_case.specs.declared.scan.Scan.{Scan}
-use Rattle.storm_case.specs.Records.{u16-at}
+use Rattle.storm_case.specs.Numbers.{u16-at}
 use Rattle.storm_case.specs.Scan as D
 use Rattle.storm_case.specs.View.{view-scan, view-judged, Ready, Says}
 use Rattle.storm_case.specs.Case.{hut-of, pair-cost, mask-byte, filled, case, case-of, read, hut-in, hut}

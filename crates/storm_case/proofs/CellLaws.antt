@@ -3,20 +3,16 @@ use mathlib.Core.Path.{_≡_, sym, fun-ext, _∙_}
 use mathlib.Core.Logic.{dite}
 use mathlib.Core.Bool.{Bool, true, not, cond, _&&_}
 use mathlib.Core.List.{List}
-use Prim.Native.Nat.{ℕ, _+_, _-_, _≤_, _<_, _^_}
+use Prim.Native.Nat.{ℕ, _+_, _-_, _≤_, _<_}
 use native.Mathlib.Decide.{decLt}
 use native.Mathlib.Omega.{arith}
 use lib.Dec.{T, eqb, ltb, leb}
-use lib.IntN.{ℤ, pos}
+use lib.IntN.{pos}
 use lib.ListN.{getD, take}
 use lib.Seq.{getD-take}
-use lib.Signed.{mag}
-use mir.Syntax.{w32}
-use mir.Val.{toZ, ofZ}
-use mir.Facts.{toZ-ofZ}
 use borrow.Author.Tests.{lt-ltb, le-ltb, le-leb, lt-leb, ltb-false, not-true}
 use Rattle.lines.proofs.Tests.{and-right, T-true}
-use Rattle.storm_case.specs.Records.{u16-at, u32-at}
+use Rattle.storm_case.specs.Numbers.{u16-at, u32-at}
 use Rattle.storm_case.specs.Scan as D
 use Rattle.storm_case.specs.Case.{row-area, row-clock, column-area, column-clock, clock-error, may-pair, pair-cost, mask-byte}
 use Rattle.storm_case.specs.declared.scan.Scan.{Scan}
@@ -25,10 +21,6 @@ use Rattle.storm_case.specs.View.{view-scan}
 -- not above, tested from the other side
 pub not-above : (x y : ℕ) → leb x y ≡ not (ltb y x)
 not-above x y = dite (decLt y x) (λ h. rw (lt-leb x y h, lt-ltb y x h)) (λ h. rw (le-leb x y (omega arith), le-ltb y x (omega arith)))
-
--- a cost is read back from the bits that hold it
-pub back32 : (z : ℤ) → mag z < 2 ^ 31 → toZ w32 (ofZ w32 z) ≡ z
-back32 z h = toZ-ofZ (record { sfits = h })
 
 -- an allowed error is as small as the window
 pub small-error : (a b : Bool) (window error : ℕ) → window ≤ 1_000_000_000 → b ≡ (a && not (ltb window error)) → b ≡ true → error ≤ 1_000_000_000

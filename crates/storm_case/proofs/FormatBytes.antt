@@ -6,7 +6,7 @@ use native.Mathlib.Nat.{add-mul-mod-self-left, add-mul-div-left}
 use native.Mathlib.Omega.{arith}
 use lib.ListN.{length, getD, drop}
 use lib.Seq.{getD-drop}
-use Rattle.storm_case.specs.Records.{u16-at, u32-at}
+use Rattle.storm_case.specs.Numbers.{u16-at, u32-at}
 use Rattle.storm_case.specs.Format.{Fragment, Event, row, little-endian, line-bytes, RowFits, ColumnFits}
 
 -- ---- a number

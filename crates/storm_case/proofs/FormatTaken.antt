@@ -7,10 +7,11 @@ use Prim.Native.Nat.{ℕ, zero, suc, _+_, _-_, _≤_, _<_}
 use native.Mathlib.Omega.{arith}
 use lib.ListN.{length, getD, drop, length-drop, length-append}
 use lib.Seq.{drop-drop}
-use Rattle.storm_case.specs.Records.{known, body-length, u16-at, u32-at}
+use Rattle.records.specs.Records.{known, body-length}
+use Rattle.storm_case.specs.Numbers.{u16-at, u32-at}
 use Rattle.storm_case.specs.Scan as D
 use Rattle.storm_case.specs.Format.{Line, row, column, rows, columns, little-endian, line-bytes, lines-bytes, AllFit}
-use Rattle.storm_case.proofs.RecordLaws.{whole}
+use Rattle.records.proofs.RecordLaws.{whole}
 use Rattle.storm_case.proofs.ScanLaws.{size-good, fragment-good, event-good, end-good, stays-accepted}
 use Rattle.storm_case.proofs.ScanLaws.{record-size, record-fragment, record-event, record-end}
 use Rattle.storm_case.proofs.OneRecord.{with-row, with-column}

@@ -1,4 +1,3 @@
-pub mod RecordLaws
 pub mod OneRecord
 pub mod ScanLaws
 pub mod SaysLaws

@@ -3,7 +3,8 @@ use mathlib.Core.Path.{_≡_, refl}
 use mathlib.Core.List.{List, [], _∷_, _++_}
 use Prim.Native.Nat.{ℕ, zero, suc}
 use lib.ListN.{length, take, replicate}
-use Rattle.storm_case.specs.Records.{known, body-length, found, u16-at, u32-at}
+use Rattle.records.specs.Records.{known, body-length, found}
+use Rattle.storm_case.specs.Numbers.{u16-at, u32-at}
 use Rattle.storm_case.specs.Scan.{Judged, more, refused, accepted}
 use Rattle.storm_case.specs.Scan.{bad-size, size, fragment, event, end, record-of, judge-record, judge-from, judged}
 

@@ -3,17 +3,18 @@ use mathlib.Core.Path.{_≡_, refl}
 use mathlib.Core.Logic.{_≢_}
 use mathlib.Core.Bool.{Bool, true, false, not, cond, _&&_, _||_}
 use mathlib.Core.List.{List, [], _∷_, _++_}
-use Prim.Native.Nat.{ℕ, _+_, _-_, _≤_, _<_}
+use Prim.Native.Nat.{ℕ, _+_, _≤_}
 use native.Mathlib.Omega.{arith}
-use lib.Dec.{T, eqb, eqb→eq, ltb, ltb→lt, nltb→le}
+use lib.Dec.{T, eqb, eqb→eq, ltb, nltb→le}
 use lib.ListN.{length, getD}
 use borrow.Author.Tests.{eqb-true, eqb-false, not-false}
 use Rattle.lines.proofs.Tests.{T-false, cond-ind, and-left, and-right}
-use Rattle.storm_case.specs.declared.Found.{Found}
-use Rattle.storm_case.specs.declared.Found.the-variants.{Body, Cut, Unknown}
-use Rattle.storm_case.specs.Records.{known, body-length, found, u16-at, u32-at}
+use Rattle.records.specs.declared.Found.{Found}
+use Rattle.records.specs.declared.Found.the-variants.{Body, Cut, Unknown}
+use Rattle.records.specs.Records.{found, Whole}
+use Rattle.storm_case.specs.Numbers.{u16-at, u32-at}
 use Rattle.storm_case.specs.Scan as D
-use Rattle.storm_case.proofs.RecordLaws.{Whole, found-whole, size-fits, fragment-fits, event-fits}
+use Rattle.records.proofs.RecordLaws.{found-whole, size-fits, fragment-fits, event-fits, kind-between}
 
 -- the number and the place of a refusal
 pub record Refusal (s : D.Scan) (number place : ℕ) : Type 0 where
@@ -61,23 +62,6 @@ pub data Does (file : List ℕ) (s : D.Scan) : D.Judged → Type 0 where
   adds-row : IsFragment file s → Does file s (D.more (with-row s))
   adds-column : IsEvent file s → Does file s (D.more (with-column s))
   ends : IsEnd file s → Does file s (D.accepted s)
-
--- a body is found only behind a known kind
-kind-known : (file : List ℕ) (at : ℕ) {n : ℕ} → found file at ≡ Body n → (0 < getD file at 0) × (getD file at 0 < 5)
-unfolding found known
-kind-known file at {n} = go (ltb (length file) (at + 1)) (ltb 0 kind) (ltb kind 5) (ltb→lt 0 kind) (ltb→lt kind 5)
-  where
-    kind : ℕ
-    kind = getD file at 0
-
-    rest : Found
-    rest = cond (ltb (length file - (at + 1)) (body-length kind)) Cut (Body (body-length kind))
-
-    go : (b c d : Bool) → (T c → 0 < kind) → (T d → kind < 5) → cond b Cut (cond (c && d) rest Unknown) ≡ Body n → (0 < kind) × (kind < 5)
-    go true c d low high e = let z : _≡_ {A = ℕ} 0 1 = cc in absurd (omega arith)
-    go false false d low high e = let z : _≡_ {A = ℕ} 0 1 = cc in absurd (omega arith)
-    go false true false low high e = let z : _≡_ {A = ℕ} 0 1 = cc in absurd (omega arith)
-    go false true true low high e = (low tt, high tt)
 
 module _ (file : List ℕ) (s : D.Scan) where
   here : (number : ℕ) → 21 ≤ number → number ≤ 26 → Does file s (D.refused number (s .at))
@@ -145,13 +129,12 @@ module _ (file : List ℕ) (s : D.Scan) where
 
   pub record-does : Does file s (D.judge-record file s)
   unfolding D.judge-record D.record-of
-  record-does = go (found file (s .at)) (λ n e. found-whole file (s .at) e) (λ n e. kind-known file (s .at) e)
+  record-does = go (found file (s .at)) (λ n e. found-whole file (s .at) refl e)
     where
-      go : (f : Found) → ((n : ℕ) → f ≡ Body n → Whole file (s .at) n)
-          → ((n : ℕ) → f ≡ Body n → (0 < getD file (s .at) 0) × (getD file (s .at) 0 < 5)) → Does file s (D.record-of file s f)
-      go Cut w k = here 21 (omega arith) (omega arith)
-      go Unknown w k = here 22 (omega arith) (omega arith)
-      go (Body n) w k =
+      go : (f : Found) → ((n : ℕ) → f ≡ Body n → Whole file (s .at)) → Does file s (D.record-of file s f)
+      go Cut w = here 21 (omega arith) (omega arith)
+      go Unknown w = here 22 (omega arith) (omega arith)
+      go (Body n) w =
           let kind = getD file (s .at) 0 in
           let others = cond (eqb kind 2) (D.fragment file s) (cond (eqb kind 3) (D.event file s) (D.end file s)) in
           cond-ind (Does file s) (eqb kind 1) (D.size file s) others
@@ -161,7 +144,7 @@ module _ (file : List ℕ) (s : D.Scan) where
           (λ u2. cond-ind (Does file s) (eqb kind 3) (D.event file s) (D.end file s)
           (λ t. let e = eqb→eq kind 3 t in does-event e (event-fits file (s .at) (w n refl) e))
           (λ u3.
-          let known = k n refl in
+          let between = kind-between file (s .at) (w n refl) in
           let a = eqb-false kind 1 (T-false _ u1) in
           let b = eqb-false kind 2 (T-false _ u2) in
           let c = eqb-false kind 3 (T-false _ u3) in

@@ -6,7 +6,8 @@ use lib.IntN.{pos}
 use lib.ListN.{replicate}
 use Rattle.lines.specs.Square.{table, square}
 use Rattle.storm_case.specs.declared.Hut.the-variants.{At, Absent}
-use Rattle.storm_case.specs.Records.{known, body-length, found, part, body, u16-at, u32-at}
+use Rattle.records.specs.Records.{known, body-length, found, part, body}
+use Rattle.storm_case.specs.Numbers.{u16-at, u32-at}
 use Rattle.storm_case.specs.Scan.{Scan, scan-with, refused, accepted, bad-size, size, fragment, event, end, record-of, judge-record, judge-from, judged}
 use Rattle.storm_case.specs.Case.{hut-of, row-area, row-clock, column-area, column-clock, clock-error, may-pair, pair-cost, mask-byte, hut-in, hut}
 

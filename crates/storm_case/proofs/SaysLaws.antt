@@ -12,7 +12,7 @@ use lib.Seq.{getD-set-same, getD-set-other}
 use Rattle.storm_case.specs.declared.scan.Judged.{Judged}
 use Rattle.storm_case.specs.declared.scan.Judged.the-variants.{More, Refused, Accepted}
 use Rattle.storm_case.specs.declared.scan.Scan.{Scan}
-use Rattle.storm_case.specs.Records.{u16-at, u32-at}
+use Rattle.storm_case.specs.Numbers.{u16-at, u32-at}
 use Rattle.storm_case.specs.Scan as D
 use Rattle.storm_case.specs.View.{view-scan, view-judged, view, with-verdict, decided, Ready, Says}
 use Rattle.storm_case.proofs.ScanLaws.{good-size, size-good, fragment-good, event-good, After, record-after, stays-refused, stays-accepted, never-more, accepted-filled}

@@ -5,12 +5,12 @@ use mathlib.Core.Bool.{true, false}
 use mathlib.Core.List.{List, [], _∷_, _++_}
 use Prim.Native.Nat.{ℕ, zero, suc, _+_, _≤_, _<_}
 use native.Mathlib.Omega.{arith}
-use lib.Dec.{T, eqb, ltb}
 use lib.ListN.{length, getD}
 use borrow.Author.Tests.{le-ltb, lt-ltb, eq-eqb, ne-eqb}
-use Rattle.storm_case.specs.declared.Found.{Found}
-use Rattle.storm_case.specs.declared.Found.the-variants.{Body, Cut, Unknown}
-use Rattle.storm_case.specs.Records.{found, u16-at, u32-at}
+use Rattle.records.specs.declared.Found.{Found}
+use Rattle.records.specs.declared.Found.the-variants.{Body, Cut, Unknown}
+use Rattle.records.specs.Records.{found}
+use Rattle.storm_case.specs.Numbers.{u16-at, u32-at}
 use Rattle.storm_case.specs.Scan as D
 use Rattle.storm_case.proofs.OneRecord.{Does, refuses, sizes, adds-row, adds-column, ends as ends-file, record-does}
 

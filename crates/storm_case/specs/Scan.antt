@@ -4,9 +4,10 @@ use mathlib.Core.List.{List, [], _∷_, _++_}
 use Prim.Native.Nat.{ℕ, zero, suc, _+_}
 use lib.Dec.{eqb, ltb}
 use lib.ListN.{length, getD}
-use Rattle.storm_case.specs.declared.Found.{Found}
-use Rattle.storm_case.specs.declared.Found.the-variants.{Body, Cut, Unknown}
-use Rattle.storm_case.specs.Records.{found, u16-at, u32-at}
+use Rattle.records.specs.declared.Found.{Found}
+use Rattle.records.specs.declared.Found.the-variants.{Body, Cut, Unknown}
+use Rattle.records.specs.Records.{found, number}
+use Rattle.storm_case.specs.Numbers.{u16-at, u32-at}
 
 -- what has been read: the offset of the next record, the size (0 before it is read), and the offsets of the fragments and events in file order
 pub record Scan : Type 0 where
@@ -54,8 +55,8 @@ module _ (file : List ℕ) (s : Scan) where
       (refused 24 (s .at)))
 
   unfoldable pub record-of : Found → Judged
-  record-of Cut = refused 21 (s .at)
-  record-of Unknown = refused 22 (s .at)
+  record-of Cut = refused (number Cut) (s .at)
+  record-of Unknown = refused (number Unknown) (s .at)
   record-of (Body k) =
       let kind = getD file (s .at) 0 in
       cond (eqb kind 1) size (cond (eqb kind 2) fragment (cond (eqb kind 3) event end))

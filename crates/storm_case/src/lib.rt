@@ -1,6 +1,5 @@
-// The case reader: records of a case file, its judgement, the costs and mask that it says, the hut of a row, and its fragments paired with its events.
+// The case reader: the judgement of a case file, the costs and mask that it says, the hut of a row, and its fragments paired with its events.
 ghost use mathlib.Core.Path.{_≡_};
-ghost use Rattle.storm_case.specs.Records.{body-length as Records·body-length, found, body as Records·body};
 ghost use Rattle.storm_case.specs.Case.{case, read, hut as Case·hut};
 
 mod cells;
@@ -10,13 +9,9 @@ mod scan;
 
 pub use pair::Pairs;
 pub use pair::pair_case;
-
-// What stands at an offset of a file.
-pub enum Found {
-    Body(usize),
-    Cut,
-    Unknown,
-}
+pub use records::Found;
+pub use records::body;
+pub use records::find;
 
 // What a file says: 0 or the number of a refusal with its place, the size and the window.
 #[repr(C)]
@@ -31,52 +26,6 @@ pub struct Case {
 pub enum Hut {
     At(u16),
     Absent,
-}
-
-fn body_length(kind: u8) -> usize
-    ensures { λ r. ⌜ r ≡ Records·body-length kind ⌝ }
-{
-    match kind {
-        1 => 6,
-        2 => 8,
-        3 => 6,
-        _ => 0,
-    }
-}
-
-pub fn find(file: &[u8], at: usize) -> Found
-    ensures { λ r. ⌜ r ≡ found (now (file .entry)) at ⌝ }
-{
-    if file.len() <= at {
-        return Found::Cut;
-    }
-    let kind = file[at];
-    if kind == 0 {
-        return Found::Unknown;
-    }
-    if 4 < kind {
-        return Found::Unknown;
-    }
-    let length = body_length(kind);
-    if file.len() - (at + 1) < length {
-        return Found::Cut;
-    }
-    Found::Body(length)
-}
-
-// The body of the record at an offset, as that part of the file; an empty part where there is none.
-pub fn body(file: &[u8], at: usize) -> &[u8]
-    ensures { λ r. ⌜ now r ≡ Records·body (now (file .entry)) at ⌝ }
-{
-    match find(file, at) {
-        Found::Body(length) => {
-            let start = at + 1;
-            let end = start + length;
-            &file[start..end]
-        }
-        Found::Cut => &file[..0],
-        Found::Unknown => &file[..0],
-    }
 }
 
 fn refused(number: u32, place: usize) -> Case

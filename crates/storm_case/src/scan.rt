@@ -4,8 +4,8 @@ ghost use Prim.Native.Nat.{_+_, _≤_};
 ghost use lib.ListN.{length};
 ghost use Rattle.storm_case.specs.Scan.{size as Scan·size, fragment as Scan·fragment, event as Scan·event, end as Scan·end, judge-record, judged};
 ghost use Rattle.storm_case.specs.View.{view-scan, with-verdict, decided, Ready, Says};
-use crate::Found;
 use crate::numbers;
+use records::Found;
 
 pub(crate) enum Judged {
     More,
@@ -148,7 +148,7 @@ fn judge_record(file: &[u8], scan: Scan, fragments: &mut [usize], events: &mut [
         (now (fragments .exit)) (now (events .exit)) ⌝ }
 {
     let at = scan.at;
-    match crate::find(file, at) {
+    match records::find(file, at) {
         Found::Cut => with_verdict(scan, Judged::Refused(21, at)),
         Found::Unknown => with_verdict(scan, Judged::Refused(22, at)),
         Found::Body(_) => {

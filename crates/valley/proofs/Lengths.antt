@@ -13,7 +13,7 @@ use Rattle.lines.proofs.Sumsℤ.{sumℤ-pos}
 use Rattle.assignment.specs.Problem.{column, AllowedPairing, total}
 use Rattle.storm_case.specs.declared.Hut.{Hut}
 use Rattle.storm_case.specs.declared.Hut.the-variants.{At, Absent}
-use Rattle.storm_case.specs.Records.{u16-at}
+use Rattle.storm_case.specs.Numbers.{u16-at}
 use Rattle.storm_case.specs.Scan.{Scan, Judged, more, refused, accepted, judged}
 use Rattle.storm_case.specs.Case.{row-area, column-area, clock-error, may-pair, hut-of, hut-in, hut}
 use Rattle.storm_case.specs.Pair.{clock-cost}

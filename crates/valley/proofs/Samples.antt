@@ -4,7 +4,8 @@ use mathlib.Core.List.{[], _∷_}
 use Prim.Native.Nat.{ℕ}
 use lib.IntN.{ℤ, pos}
 use Rattle.storm_case.specs.declared.pair.Pairs.{Pairs}
-use Rattle.storm_case.specs.Records.{known, body-length, found, u16-at, u32-at}
+use Rattle.records.specs.Records.{known, body-length, found}
+use Rattle.storm_case.specs.Numbers.{u16-at, u32-at}
 use Rattle.storm_case.specs.Scan.{bad-size, size, fragment, event, end, record-of, judge-record, judge-from, judged}
 use Rattle.storm_case.specs.Case.{hut-of, hut-in, hut}
 use Rattle.storm_case.specs.Pair.{unpaired}

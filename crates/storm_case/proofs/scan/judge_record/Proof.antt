@@ -1,7 +1,6 @@
 -- `judge_record` meets its contract: each arm is one kind of record (`ScanLaws`); what it reads lies within the file because a body was found.
 use native.Mathlib.Omega.{arith}
-use mathlib.Core.Path.{sym, _∙_}
-use Rattle.storm_case.proofs.RecordLaws.{found-whole, found-fits, size-fits, fragment-fits, event-fits}
+use Rattle.records.proofs.RecordLaws.{found-whole, found-fits, size-fits, fragment-fits, event-fits}
 use Rattle.storm_case.proofs.ScanLaws.{record-cut, record-unknown, record-size, record-fragment, record-event, record-end}
 use Rattle.storm_case.proofs.SaysLaws.{verdict-says, says-as}
 use borrow.Author.Needs.{needs}
@@ -27,14 +26,14 @@ enum-told-3 : tie.Need-enum-told-3
 enum-told-3 c = search needs
 
 shared-slice-read-kind : tie.Need-shared-slice-read-kind
-shared-slice-read-kind c = omega (arith, found-fits _ _ (c .before .before .before .find .ensures) (c .before .enum-told3 .given .1))
+shared-slice-read-kind c = omega (arith, found-fits _ _ (c .before .before .before .find .ensures .exact) (c .before .enum-told3 .given .1))
 
 judge-size-requires : tie.Need-judge-size-requires
 judge-size-requires c κs =
     let p = c .before .before .before .before .before .before .before .before .before .before .pre in
-    let f = c .before .before .before .before .before .before .find .ensures in
+    let f = c .before .before .before .before .before .before .find .ensures .exact in
     let k = c .before .before .before .before .enum-told3 .given .1 in
-    (p, size-fits _ _ (found-whole _ _ (sym f ∙ k)) (c .before .before .if1 .taken))
+    (p, size-fits _ _ (found-whole _ _ f k) (c .before .before .if1 .taken))
 
 same-length : tie.Need-same-length
 same-length c = search needs
@@ -44,7 +43,7 @@ same-length-2 c = search needs
 
 returns : tie.Need-returns
 returns c =
-    let f = c .before .before .before .before .before .before .before .find .ensures in
+    let f = c .before .before .before .before .before .before .before .find .ensures .exact in
     let k = c .before .before .before .before .before .enum-told3 .given .1 in
     says-as
     (record-size _ _ f k (c .before .before .before .if1 .taken))
@@ -53,9 +52,9 @@ returns c =
 judge-fragment-requires : tie.Need-judge-fragment-requires
 judge-fragment-requires c κs =
     let p = c .before .before .before .before .before .before .before .before .before .before .before .pre in
-    let f = c .before .before .before .before .before .before .before .find .ensures in
+    let f = c .before .before .before .before .before .before .before .find .ensures .exact in
     let k = c .before .before .before .before .before .enum-told3 .given .1 in
-    (p, fragment-fits _ _ (found-whole _ _ (sym f ∙ k)) (c .before .before .if2 .taken))
+    (p, fragment-fits _ _ (found-whole _ _ f k) (c .before .before .if2 .taken))
 
 same-length-3 : tie.Need-same-length-3
 same-length-3 c = search needs
@@ -65,7 +64,7 @@ same-length-4 c = search needs
 
 returns-2 : tie.Need-returns-2
 returns-2 c =
-    let f = c .before .before .before .before .before .before .before .before .before .before .find .ensures in
+    let f = c .before .before .before .before .before .before .before .before .before .before .find .ensures .exact in
     let k = c .before .before .before .before .before .before .before .before .enum-told3 .given .1 in
     says-as
     (record-fragment _ _ f k (c .before .before .before .before .before .if2 .taken))
@@ -74,9 +73,9 @@ returns-2 c =
 judge-event-requires : tie.Need-judge-event-requires
 judge-event-requires c κs =
     let p = c .before .before .before .before .before .before .before .before .before .before .before .before .pre in
-    let f = c .before .before .before .before .before .before .before .before .find .ensures in
+    let f = c .before .before .before .before .before .before .before .before .find .ensures .exact in
     let k = c .before .before .before .before .before .before .enum-told3 .given .1 in
-    (p, event-fits _ _ (found-whole _ _ (sym f ∙ k)) (c .before .before .if3 .taken))
+    (p, event-fits _ _ (found-whole _ _ f k) (c .before .before .if3 .taken))
 
 same-length-5 : tie.Need-same-length-5
 same-length-5 c = search needs
@@ -86,7 +85,7 @@ same-length-6 c = search needs
 
 returns-3 : tie.Need-returns-3
 returns-3 c =
-    let f = c .before .before .before .before .before .before .before .before .before .before .before .find .ensures in
+    let f = c .before .before .before .before .before .before .before .before .before .before .before .find .ensures .exact in
     let k = c .before .before .before .before .before .before .before .before .before .enum-told3 .given .1 in
     says-as
     (record-event _ _ f k (c .before .before .before .before .before .if3 .taken))
@@ -95,19 +94,19 @@ returns-3 c =
 judge-end-requires : tie.Need-judge-end-requires
 judge-end-requires c κs =
     let p = c .before .before .before .before .before .before .before .before .before .before .before .before .pre in
-    let f = c .before .before .before .before .before .before .before .before .find .ensures in
+    let f = c .before .before .before .before .before .before .before .before .find .ensures .exact in
     let k = c .before .before .before .before .before .before .enum-told3 .given .1 in
     (p, omega (arith, found-fits _ _ f k))
 
 returns-4 : tie.Need-returns-4
 returns-4 c =
     let p = c .before .before .before .before .before .before .before .pre in
-    verdict-says (p) (c .with-verdict .ensures) (record-cut _ _ (c .before .before .before .find .ensures) (c .before .enum-told .given .1))
+    verdict-says (p) (c .with-verdict .ensures) (record-cut _ _ (c .before .before .before .find .ensures .exact) (c .before .enum-told .given .1))
 
 returns-5 : tie.Need-returns-5
 returns-5 c =
     let p = c .before .before .before .before .before .before .before .pre in
-    verdict-says (p) (c .with-verdict2 .ensures) (record-unknown _ _ (c .before .before .before .find .ensures) (c .before .enum-told2 .given .1))
+    verdict-says (p) (c .with-verdict2 .ensures) (record-unknown _ _ (c .before .before .before .find .ensures .exact) (c .before .enum-told2 .given .1))
 
 same-length-7 : tie.Need-same-length-7
 same-length-7 c = search needs
@@ -117,7 +116,7 @@ same-length-8 c = search needs
 
 returns-6 : tie.Need-returns-6
 returns-6 c =
-    let f = c .before .before .before .before .before .before .before .before .before .find .ensures in
+    let f = c .before .before .before .before .before .before .before .before .before .find .ensures .exact in
     let k = c .before .before .before .before .before .before .before .enum-told3 .given .1 in
     says-as
     (record-end _ _ f k (c .before .before .before .before .before .if1 .left) (c .before .before .before .before .if2 .left) (c .before .before .before .if3 .left))

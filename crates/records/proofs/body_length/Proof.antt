@@ -1,8 +1,8 @@
 -- `body_length` meets its contract, kind by kind.
 use borrow.Author.Tests.{ne-eqb}
-use Rattle.storm_case.specs.Records.{body-length}
-use Rattle.storm_case.proofs.body_length.Statement.{statement}
-use Rattle.storm_case.proofs.body_length.Tie as tie
+use Rattle.records.specs.Records.{body-length}
+use Rattle.records.proofs.body_length.Statement.{statement}
+use Rattle.records.proofs.body_length.Tie as tie
 
 returns : tie.Need-returns
 unfolding body-length
