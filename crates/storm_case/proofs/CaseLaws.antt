@@ -6,7 +6,7 @@ use Prim.Native.Nat.{ℕ, _+_, _*_, _≤_, _<_}
 use native.Mathlib.Omega.{arith}
 use lib.IntN.{ℤ}
 use lib.ListN.{length, getD, take, drop}
-use lib.Seq.{length-take-le, getD-take}
+use lib.Seq.{getD-take}
 use borrow.Author.Tests.{lt-ltb, le-ltb, eq-eqb, ne-eqb}
 use Rattle.lines.specs.Square.{square}
 use Rattle.storm_case.specs.declared.Case.{Case}
@@ -16,37 +16,40 @@ use Rattle.storm_case.specs.declared.scan.Judged.the-variants.{More, Ref
 use Rattle.storm_case.specs.declared.scan.Scan.{Scan}
 use Rattle.storm_case.specs.Numbers.{u16-at}
 use Rattle.storm_case.specs.Scan as D
-use Rattle.storm_case.specs.View.{view-scan, view-judged, Ready, Says}
+use Rattle.storm_case.specs.View.{view-scan, view-judged, Agrees, Fillable}
 use Rattle.storm_case.specs.Case.{hut-of, pair-cost, mask-byte, filled, case, case-of, read, hut-in, hut}
 use Rattle.storm_case.proofs.Fronts.{cells-fit, front-long}
 use Rattle.storm_case.proofs.ScanLaws.{accepted-filled}
+use Rattle.storm_case.proofs.ViewLaws.{rows-taken, columns-taken}
 
 -- ---- the verdict of the code's scan
 
-module _ (file : List ℕ) {s : Scan} {fragments events : List ℕ} (says : Says file (D.judged file) s fragments events) where
+module _ (file : List ℕ) {s : Scan} {fragments events : List ℕ} (agrees : Agrees file (D.judged file) s fragments events) where
   judged-is : {j : Judged} → s .judged ≡ j → D.judged file ≡ view-judged j (view-scan s fragments events)
-  judged-is e = sym (says .exact) ∙ ap (λ j. view-judged j (view-scan s fragments events)) e
+  judged-is e = sym (agrees .exact) ∙ ap (λ j. view-judged j (view-scan s fragments events)) e
 
   -- the counts of an accepted file are n
   pub all-read : s .judged ≡ Accepted → (s .fragments ≡ s .n) × (s .events ≡ s .n)
   all-read e =
-      let r = says .ready in
-      let a = accepted-filled file (judged-is e) in (
-        sym (length-take-le (s .fragments) fragments (omega (arith, r .few-rows, r .small, r .rows))) ∙ a .rows,
-        sym (length-take-le (s .events) events (omega (arith, r .few-columns, r .small, r .columns))) ∙ a .columns,
-      )
+      let a = accepted-filled file (judged-is e) in
+      (sym (rows-taken (agrees .ready)) ∙ a .rows, sym (columns-taken (agrees .ready)) ∙ a .columns)
 
   -- a square of n rows has its room in the front of a buffer
   pub cells-room : s .n * s .n ≤ 4096
-  cells-room = cells-fit (says .ready .small)
+  cells-room = cells-fit (agrees .ready .small)
 
   pub front-room : {A : Type 0} (xs : List A) → length xs ≡ 4096 → length (take (s .n * s .n) xs) ≡ s .n * s .n
   front-room xs l = sym (front-long xs l cells-room)
 
-  pub fill-asks : {A B : Type 0} (costs : List A) (mask : List B) → s .judged ≡ Accepted → length costs ≡ 4096 → length mask ≡ 4096
-      → Ready file s fragments events × (s .fragments ≡ s .n) × (s .events ≡ s .n) × (length (take (s .n * s .n) costs) ≡ s .n * s .n)
-      × (length (take (s .n * s .n) mask) ≡ s .n * s .n)
-  fill-asks costs mask e lc lm = let a = all-read e in (says .ready, a .0, a .1, front-room costs lc, front-room mask lm)
+  pub fillable : {A B : Type 0} (costs : List A) (mask : List B) → s .judged ≡ Accepted → length costs ≡ 4096 → length mask ≡ 4096
+      → Fillable file s fragments events (take (s .n * s .n) costs) (take (s .n * s .n) mask)
+  fillable costs mask e lc lm = let a = all-read e in record {
+    ready = agrees .ready;
+    all-rows = a .0;
+    all-columns = a .1;
+    costs-long = front-room costs lc;
+    mask-long = front-room mask lm;
+  }
 
 -- ---- what the reader gives back
 
@@ -64,41 +67,41 @@ module _ (file : List ℕ) (costs : List ℤ) (mask : List ℕ) (lc : length cos
   unfolding read
   read-judged j e = rw (e, eq-eqb (length costs) 4096 lc, eq-eqb (length mask) 4096 lm)
 
-  module _ {s : Scan} {fragments events : List ℕ} (says : Says file (D.judged file) s fragments events) where
+  module _ {s : Scan} {fragments events : List ℕ} (agrees : Agrees file (D.judged file) s fragments events) where
     pub read-more : {r : Case} → s .judged ≡ More → r ≡ case 21 (s .at) 0 0 → (r, costs, mask) ≡ read file costs mask
     unfolding case-of
-    read-more e q = ap (λ (r : Case). (r, costs, mask)) q ∙ sym (read-judged _ (judged-is file says e))
+    read-more e q = ap (λ (r : Case). (r, costs, mask)) q ∙ sym (read-judged _ (judged-is file agrees e))
 
     pub read-refused : {r : Case} {number place : ℕ} → s .judged ≡ Refused number place → r ≡ case number place 0 0 → (r, costs, mask) ≡ read file costs mask
     unfolding case-of
-    read-refused e q = ap (λ (r : Case). (r, costs, mask)) q ∙ sym (read-judged _ (judged-is file says e))
+    read-refused e q = ap (λ (r : Case). (r, costs, mask)) q ∙ sym (read-judged _ (judged-is file agrees e))
 
     pub read-accepted : {cs : List ℤ} {ms : List ℕ} → s .judged ≡ Accepted
         → (cs ≡ square (pair-cost file (view-scan s fragments events)) (s .n)) × (ms ≡ square (mask-byte file (view-scan s fragments events)) (s .n))
         → (case 0 0 (s .n) (s .window), cs ++ drop (s .n * s .n) costs, ms ++ drop (s .n * s .n) mask) ≡ read file costs mask
     unfolding case-of filled
-    read-accepted e q = rw (q .0, q .1) (sym (read-judged _ (judged-is file says e)))
+    read-accepted e q = rw (q .0, q .1) (sym (read-judged _ (judged-is file agrees e)))
 
 -- ---- the hut of a row
 
-module _ (file : List ℕ) (i : ℕ) {s : Scan} {fragments events : List ℕ} (says : Says file (D.judged file) s fragments events) where
+module _ (file : List ℕ) (i : ℕ) {s : Scan} {fragments events : List ℕ} (agrees : Agrees file (D.judged file) s fragments events) where
   pub hut-more : s .judged ≡ More → Absent ≡ hut file i
   unfolding hut hut-in
-  hut-more e = sym (ap (hut-in file i) (judged-is file says e))
+  hut-more e = sym (ap (hut-in file i) (judged-is file agrees e))
 
   pub hut-refused : {number place : ℕ} → s .judged ≡ Refused number place → Absent ≡ hut file i
   unfolding hut hut-in
-  hut-refused e = sym (ap (hut-in file i) (judged-is file says e))
+  hut-refused e = sym (ap (hut-in file i) (judged-is file agrees e))
 
   module _ (e : s .judged ≡ Accepted) where
     pub hut-past : s .n ≤ i → Absent ≡ hut file i
     unfolding hut hut-in
-    hut-past h = rw (judged-is file says e, le-ltb i (s .n) h)
+    hut-past h = rw (judged-is file agrees e, le-ltb i (s .n) h)
 
     module _ (below : i < s .n) where
       pub hut-there : {h : ℕ} → h ≡ u16-at file (getD fragments i 0 + 1) → At h ≡ hut file i
       unfolding hut hut-in hut-of
-      hut-there q = rw (q, judged-is file says e, lt-ltb i (s .n) below, getD-take (s .fragments) fragments i 0 (omega (arith, all-read file says e .0)))
+      hut-there q = rw (q, judged-is file agrees e, lt-ltb i (s .n) below, getD-take (s .fragments) fragments i 0 (omega (arith, all-read file agrees e .0)))
 
       pub fragment-inside : getD fragments i 0 + 9 ≤ length file
-      fragment-inside = says .ready .row-inside i (omega (arith, all-read file says e .0))
+      fragment-inside = agrees .ready .rows .inside i (omega (arith, all-read file agrees e .0))

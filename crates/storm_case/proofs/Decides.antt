@@ -40,24 +40,20 @@ module _ (k : ℕ) (file : List ℕ) (s : D.Scan) (h : s .at + 9 ≤ k) where
   unfolding D.size D.bad-size
   cut-size = rw (cut-u16 (s .at + 1) (omega arith), cut-u32 (s .at + 3) (omega arith))
 
-  cut-fragment : D.fragment (take k file) s ≡ D.fragment file s
-  unfolding D.fragment
-  cut-fragment = refl
-
-  cut-event : D.event (take k file) s ≡ D.event file s
-  unfolding D.event
-  cut-event = refl
-
   cut-end : D.end (take k file) s ≡ D.end file s
   unfolding D.end
   cut-end = rw (length-take k file, same-end k (length file) (s .at + 1) (omega arith))
+
+  cut-kind : D.by-kind (take k file) s ≡ D.by-kind file s
+  unfolding D.by-kind
+  cut-kind = rw (getD-take k file (s .at) 0 (omega arith), cut-size, cut-end)
 
   cut-record : D.judge-record (take k file) s ≡ D.judge-record file s
   unfolding D.judge-record D.record-of
   cut-record = rw (cut-found k file (s .at) h) (go (found file (s .at)))
     where
       go : (f : Found) → D.record-of (take k file) s f ≡ D.record-of file s f
-      go (Body n) = rw (getD-take k file (s .at) 0 (omega arith), cut-size, cut-fragment, cut-event, cut-end)
+      go (Body n) = cut-kind
       go Cut = refl
       go Unknown = refl
 
@@ -106,7 +102,7 @@ next {s = s} h (adds-column r) =
     }
 next h (ends r) = (h, sym (r .last))
 
-start-paced : Paced (D.scan-with 0 0 0 [] [])
+start-paced : Paced D.start
 start-paced = record { first = λ e. refl; small = omega arith; few-rows = omega arith; few-columns = omega arith; pace = omega arith }
 
 -- ---- record after record
@@ -120,7 +116,7 @@ paced-from file (suc m) (D.accepted s) h = h
 
 judged-paced : (file : List ℕ) → Next file (D.judged file)
 unfolding D.judged
-judged-paced file = paced-from file (length file + 1) (D.more (D.scan-with 0 0 0 [] [])) start-paced
+judged-paced file = paced-from file (length file + 1) (D.more D.start) start-paced
 
 -- an accepted file has at most 1,032 bytes
 pub accepted-short : (file : List ℕ) {s : D.Scan} → D.judged file ≡ D.accepted s → length file ≤ 1032
@@ -160,7 +156,7 @@ verdict-stays file (suc m) (suc l) (D.accepted s) h d = refl
 pub cut-judged : (k : ℕ) → 1040 ≤ k → (file : List ℕ) → D.judged (take k file) ≡ D.judged file
 unfolding D.judged
 cut-judged k b file =
-    let start = D.more (D.scan-with 0 0 0 [] []) in
+    let start = D.more D.start in
     let fewer : length (take k file) + 1 ≤ length file + 1 = omega (arith, length-take k file) in
     sym (verdict-stays (take k file) (length (take k file) + 1) (length file + 1) start fewer (λ s e. never-more (take k file) e))
     ∙ same-from k file b (length file + 1) start start-paced

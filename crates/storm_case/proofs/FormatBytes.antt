@@ -7,7 +7,7 @@ use native.Mathlib.Omega.{arith}
 use lib.ListN.{length, getD, drop}
 use lib.Seq.{getD-drop}
 use Rattle.storm_case.specs.Numbers.{u16-at, u32-at}
-use Rattle.storm_case.specs.Format.{Fragment, Event, row, little-endian, line-bytes, RowFits, ColumnFits}
+use Rattle.storm_case.specs.Format.{Fragment, Event, row, little-endian, line-bytes, FragmentFits, EventFits}
 
 -- ---- a number
 
@@ -60,7 +60,7 @@ abbrev pub column-in : List ℕ → Event
 column-in bytes = record { area = u16-at bytes 1; clock = u32-at bytes 3 }
 
 -- what is written reads back
-pub row-back : (f : Fragment) (rest : List ℕ) → RowFits f → row-in (line-bytes (row f) ++ rest) ≡ f
+pub row-back : (f : Fragment) (rest : List ℕ) → FragmentFits f → row-in (line-bytes (row f) ++ rest) ≡ f
 unfolding line-bytes little-endian u16-at u32-at
 row-back f rest h =
     let p = back16 (f .hut) (h .hut) in
@@ -89,10 +89,10 @@ small32 : (bytes : List ℕ) (p : ℕ) → Small bytes → u32-at bytes p < 4_29
 unfolding u32-at
 small32 bytes p h = omega (arith, small16 bytes p h, small16 bytes (p + 2) h)
 
-pub row-fits : (bytes : List ℕ) → Small bytes → RowFits (row-in bytes)
+pub row-fits : (bytes : List ℕ) → Small bytes → FragmentFits (row-in bytes)
 row-fits bytes h = record { hut = small16 bytes 1 h; area = small16 bytes 3 h; clock = small32 bytes 5 h }
 
-pub column-fits : (bytes : List ℕ) → Small bytes → ColumnFits (column-in bytes)
+pub column-fits : (bytes : List ℕ) → Small bytes → EventFits (column-in bytes)
 column-fits bytes h = record { area = small16 bytes 1 h; clock = small32 bytes 3 h }
 
 -- the first bytes one by one, then the rest

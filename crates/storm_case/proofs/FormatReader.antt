@@ -18,7 +18,7 @@ use Rattle.storm_case.specs.declared.Case.{Case}
 use Rattle.storm_case.specs.declared.Hut.the-variants.{At, Absent}
 use Rattle.storm_case.specs.Scan as D
 use Rattle.storm_case.specs.Case.{clock-error, may-pair, pair-cost, mask-byte, filled, case, case-of, read, hut-in, hut}
-use Rattle.storm_case.specs.Format.{Fragment, Event, Line, encode, AreBytes, WellFormed, IsCase, row-at, column-at, Tells}
+use Rattle.storm_case.specs.Format.{Fragment, Event, Line, encode, AreBytes, WellFormed, IsCase, row-at, column-at, Matches}
 use Rattle.storm_case.specs.Format.{Allowed, PairIs, ReadAs}
 use Rattle.storm_case.proofs.ScanLaws.{never-more}
 use Rattle.storm_case.proofs.Decides.{refused-early}
@@ -77,17 +77,17 @@ module _ {n window : ℕ} {lines : List Line} (h : WellFormed n window lines) wh
   abbrev scan : D.Scan
   scan = well-formed-accepted h .scan
 
-  abbrev tells : Tells file scan n window lines
-  tells = well-formed-accepted h .tells
+  abbrev matches : Matches file scan n window lines
+  matches = well-formed-accepted h .matches
 
   cells-are : (i j : ℕ) → i < n → j < n → PairIs window (row-at lines i) (column-at lines j) (pair-cost file scan i j) (mask-byte file scan i j)
   unfolding pair-cost mask-byte may-pair clock-error
   cells-are i j hi hj = rw (
-    tells .window-is,
-    tells .row-area-is i hi,
-    tells .row-clock-is i hi,
-    tells .column-area-is j hj,
-    tells .column-clock-is j hj,
+    matches .window-is,
+    matches .row-area-is i hi,
+    matches .row-clock-is i hi,
+    matches .column-area-is j hj,
+    matches .column-clock-is j hj,
   ) (pair-rule window (row-at lines i) (column-at lines j))
 
   module _ (costs : List ℤ) (mask : List ℕ) (lc : length costs ≡ 4096) (lm : length mask ≡ 4096) where
@@ -95,7 +95,7 @@ module _ {n window : ℕ} {lines : List Line} (h : WellFormed n window lines) wh
     unfolding read case-of
     answer-is =
         rw (eq-eqb (length costs) 4096 lc, eq-eqb (length mask) 4096 lm, well-formed-accepted h .verdict)
-        (ap₂ (λ a b. (case 0 0 a b, filled a (pair-cost file scan) costs, filled a (mask-byte file scan) mask)) (tells .size) (tells .window-is))
+        (ap₂ (λ a b. (case 0 0 a b, filled a (pair-cost file scan) costs, filled a (mask-byte file scan) mask)) (matches .size) (matches .window-is))
 
     cells-fit : n * n ≤ 4096
     cells-fit = mul-le-mul (h .small) (h .small)
@@ -119,8 +119,8 @@ module _ {n window : ℕ} {lines : List Line} (h : WellFormed n window lines) wh
   pub case-hut : (i : ℕ) → (i < n → hut file i ≡ At (row-at lines i .hut)) × (n ≤ i → hut file i ≡ Absent)
   unfolding hut hut-in
   case-hut i = (
-    λ l. rw (well-formed-accepted h .verdict, tells .size, lt-ltb i n l, tells .hut i l),
-    λ l. rw (well-formed-accepted h .verdict, tells .size, le-ltb i n l),
+    λ l. rw (well-formed-accepted h .verdict, matches .size, lt-ltb i n l, matches .hut i l),
+    λ l. rw (well-formed-accepted h .verdict, matches .size, le-ltb i n l),
   )
 
 -- ---- any file

@@ -1,6 +1,6 @@
 pub mod OneRecord
 pub mod ScanLaws
-pub mod SaysLaws
+pub mod ViewLaws
 pub mod CellLaws
 pub mod Fronts
 pub mod CaseLaws

@@ -2,7 +2,7 @@
 use mathlib.Core.Path.{_≡_, refl}
 use mathlib.Core.Logic.{_≢_}
 use mathlib.Core.Bool.{Bool, true, false, not, cond, _&&_, _||_}
-use mathlib.Core.List.{List, [], _∷_, _++_}
+use mathlib.Core.List.{List, []}
 use Prim.Native.Nat.{ℕ, _+_, _≤_}
 use native.Mathlib.Omega.{arith}
 use lib.Dec.{T, eqb, eqb→eq, ltb, nltb→le}
@@ -30,17 +30,12 @@ pub record IsSize (file : List ℕ) (s : D.Scan) : Type 0 where
   pub small : u16-at file (s .at + 1) ≤ 64
   pub low : u32-at file (s .at + 3) ≤ 1_000_000_000
 
-pub record IsFragment (file : List ℕ) (s : D.Scan) : Type 0 where
-  pub kind : getD file (s .at) 0 ≡ 2
-  pub fits : s .at + 9 ≤ length file
+-- a fragment or an event: its kind, how many bytes it takes, and how many there were
+pub record IsLine (file : List ℕ) (s : D.Scan) (kind size count : ℕ) : Type 0 where
+  pub kind-is : getD file (s .at) 0 ≡ kind
+  pub fits : s .at + size ≤ length file
   pub some : s .n ≢ 0
-  pub fewer : length (s .fragments) ≢ s .n
-
-pub record IsEvent (file : List ℕ) (s : D.Scan) : Type 0 where
-  pub kind : getD file (s .at) 0 ≡ 3
-  pub fits : s .at + 7 ≤ length file
-  pub some : s .n ≢ 0
-  pub fewer : length (s .events) ≢ s .n
+  pub fewer : count ≢ s .n
 
 pub record IsEnd (file : List ℕ) (s : D.Scan) : Type 0 where
   pub kind : getD file (s .at) 0 ≡ 4
@@ -49,18 +44,11 @@ pub record IsEnd (file : List ℕ) (s : D.Scan) : Type 0 where
   pub columns : length (s .events) ≡ s .n
   pub last : s .at + 1 ≡ length file
 
--- the scan after a fragment, and after an event
-abbrev pub with-row : D.Scan → D.Scan
-with-row s = D.scan-with (s .at + 9) (s .n) (s .window) (s .fragments ++ (s .at ∷ [])) (s .events)
-
-abbrev pub with-column : D.Scan → D.Scan
-with-column s = D.scan-with (s .at + 7) (s .n) (s .window) (s .fragments) (s .events ++ (s .at ∷ []))
-
 pub data Does (file : List ℕ) (s : D.Scan) : D.Judged → Type 0 where
   refuses : (number place : ℕ) → Refusal s number place → Does file s (D.refused number place)
-  sizes : IsSize file s → Does file s (D.more (D.scan-with (s .at + 7) (u16-at file (s .at + 1)) (u32-at file (s .at + 3)) [] []))
-  adds-row : IsFragment file s → Does file s (D.more (with-row s))
-  adds-column : IsEvent file s → Does file s (D.more (with-column s))
+  sizes : IsSize file s → Does file s (D.more (D.with-size s (u16-at file (s .at + 1)) (u32-at file (s .at + 3))))
+  adds-row : IsLine file s 2 9 (length (s .fragments)) → Does file s (D.more (D.with-row s))
+  adds-column : IsLine file s 3 7 (length (s .events)) → Does file s (D.more (D.with-column s))
   ends : IsEnd file s → Does file s (D.accepted s)
 
 module _ (file : List ℕ) (s : D.Scan) where
@@ -88,26 +76,20 @@ module _ (file : List ℕ) (s : D.Scan) where
       bad = here 25 (omega arith) (omega arith)
 
       go : (x y z : Bool) → eqb n 0 ≡ x → (T (not y) → n ≤ 64) → (T (not z) → w ≤ 1_000_000_000) → s .n ≡ 0
-          → Does file s (cond (x || y || z) (D.refused 25 (s .at)) (D.more (D.scan-with (s .at + 7) n w [] [])))
+          → Does file s (cond (x || y || z) (D.refused 25 (s .at)) (D.more (D.with-size s n w)))
       go true y z some few low first = bad
       go false true z some few low first = bad
       go false false true some few low first = bad
       go false false false some few low first =
           sizes (record { kind = kind; fits = fits; first = first; some = eqb-false n 0 some; small = few tt; low = low tt })
 
-  does-fragment : getD file (s .at) 0 ≡ 2 → s .at + 9 ≤ length file → Does file s (D.fragment file s)
-  unfolding D.fragment
-  does-fragment kind fits =
+  does-line : {kind size count : ℕ} {next : D.Scan} → getD file (s .at) 0 ≡ kind → s .at + size ≤ length file
+      → (IsLine file s kind size count → Does file s (D.more next)) → Does file s (D.line s count next)
+  unfolding D.line
+  does-line {count = count} kind fits adds =
       cond-ind (Does file s) (eqb (s .n) 0) (D.refused 23 (s .at)) _ (λ t. here 23 (omega arith) (omega arith))
-      (λ t. cond-ind (Does file s) (eqb (length (s .fragments)) (s .n)) (D.refused 24 (s .at)) _ (λ u. here 24 (omega arith) (omega arith))
-      (λ u. adds-row (record { kind = kind; fits = fits; some = sized t; fewer = eqb-false (length (s .fragments)) (s .n) (T-false _ u) })))
-
-  does-event : getD file (s .at) 0 ≡ 3 → s .at + 7 ≤ length file → Does file s (D.event file s)
-  unfolding D.event
-  does-event kind fits =
-      cond-ind (Does file s) (eqb (s .n) 0) (D.refused 23 (s .at)) _ (λ t. here 23 (omega arith) (omega arith))
-      (λ t. cond-ind (Does file s) (eqb (length (s .events)) (s .n)) (D.refused 24 (s .at)) _ (λ u. here 24 (omega arith) (omega arith))
-      (λ u. adds-column (record { kind = kind; fits = fits; some = sized t; fewer = eqb-false (length (s .events)) (s .n) (T-false _ u) })))
+      (λ t. cond-ind (Does file s) (eqb count (s .n)) (D.refused 24 (s .at)) _ (λ u. here 24 (omega arith) (omega arith))
+      (λ u. adds (record { kind-is = kind; fits = fits; some = sized t; fewer = eqb-false count (s .n) (T-false _ u) })))
 
   does-end : getD file (s .at) 0 ≡ 4 → Does file s (D.end file s)
   unfolding D.end
@@ -127,6 +109,23 @@ module _ (file : List ℕ) (s : D.Scan) where
       (λ v. refuses 26 (s .at + 1) (record { low = omega arith; high = omega arith; near = omega arith })))
       (λ u. here 24 (omega arith) (omega arith)))
 
+  does-kind : Whole file (s .at) → Does file s (D.by-kind file s)
+  unfolding D.by-kind
+  does-kind w =
+      let kind = getD file (s .at) 0 in
+      cond-ind (Does file s) (eqb kind 1) (D.size file s) _
+      (λ t. let e = eqb→eq kind 1 t in does-size e (size-fits file (s .at) w e))
+      (λ u1. cond-ind (Does file s) (eqb kind 2) (D.fragment s) _
+      (λ t. let e = eqb→eq kind 2 t in does-line e (fragment-fits file (s .at) w e) adds-row)
+      (λ u2. cond-ind (Does file s) (eqb kind 3) (D.event s) (D.end file s)
+      (λ t. let e = eqb→eq kind 3 t in does-line e (event-fits file (s .at) w e) adds-column)
+      (λ u3.
+      let between = kind-between file (s .at) w in
+      let a = eqb-false kind 1 (T-false _ u1) in
+      let b = eqb-false kind 2 (T-false _ u2) in
+      let c = eqb-false kind 3 (T-false _ u3) in
+      does-end (omega arith))))
+
   pub record-does : Does file s (D.judge-record file s)
   unfolding D.judge-record D.record-of
   record-does = go (found file (s .at)) (λ n e. found-whole file (s .at) refl e)
@@ -134,18 +133,4 @@ module _ (file : List ℕ) (s : D.Scan) where
       go : (f : Found) → ((n : ℕ) → f ≡ Body n → Whole file (s .at)) → Does file s (D.record-of file s f)
       go Cut w = here 21 (omega arith) (omega arith)
       go Unknown w = here 22 (omega arith) (omega arith)
-      go (Body n) w =
-          let kind = getD file (s .at) 0 in
-          let others = cond (eqb kind 2) (D.fragment file s) (cond (eqb kind 3) (D.event file s) (D.end file s)) in
-          cond-ind (Does file s) (eqb kind 1) (D.size file s) others
-          (λ t. let e = eqb→eq kind 1 t in does-size e (size-fits file (s .at) (w n refl) e))
-          (λ u1. cond-ind (Does file s) (eqb kind 2) (D.fragment file s) (cond (eqb kind 3) (D.event file s) (D.end file s))
-          (λ t. let e = eqb→eq kind 2 t in does-fragment e (fragment-fits file (s .at) (w n refl) e))
-          (λ u2. cond-ind (Does file s) (eqb kind 3) (D.event file s) (D.end file s)
-          (λ t. let e = eqb→eq kind 3 t in does-event e (event-fits file (s .at) (w n refl) e))
-          (λ u3.
-          let between = kind-between file (s .at) (w n refl) in
-          let a = eqb-false kind 1 (T-false _ u1) in
-          let b = eqb-false kind 2 (T-false _ u2) in
-          let c = eqb-false kind 3 (T-false _ u3) in
-          does-end (omega arith))))
+      go (Body n) w = does-kind (w n refl)

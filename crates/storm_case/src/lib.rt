@@ -3,8 +3,10 @@ ghost use mathlib.Core.Path.{_≡_};
 ghost use Rattle.storm_case.specs.Case.{case, read, hut as Case·hut};
 
 mod cells;
+mod judgement;
 mod numbers;
 mod pair;
+mod record;
 mod scan;
 
 pub use pair::Pairs;
@@ -51,7 +53,7 @@ pub fn read_case(file: &[u8], costs: &mut [i32], mask: &mut [u8]) -> Case
     }
     let mut fragments = [0usize; 64];
     let mut events = [0usize; 64];
-    let scan = scan::judge_file(file, &mut fragments, &mut events);
+    let scan = judgement::judge_file(file, &mut fragments, &mut events);
     let n = scan.n;
     let window = scan.window;
     let judged = scan.judged;
@@ -84,7 +86,7 @@ pub fn hut_of(file: &[u8], row: usize) -> Hut
 {
     let mut fragments = [0usize; 64];
     let mut events = [0usize; 64];
-    let scan = scan::judge_file(file, &mut fragments, &mut events);
+    let scan = judgement::judge_file(file, &mut fragments, &mut events);
     let n = scan.n;
     let judged = scan.judged;
     match judged {

@@ -2,7 +2,7 @@
 use mathlib.Core.Path.{sym}
 use native.Mathlib.Omega.{arith}
 use borrow.Author.Needs.{needs}
-use Rattle.storm_case.proofs.CaseLaws.{cells-room, front-room, fill-asks, no-cost-room, no-mask-room, read-more, read-refused, read-accepted}
+use Rattle.storm_case.proofs.CaseLaws.{cells-room, front-room, fillable, no-cost-room, no-mask-room, read-more, read-refused, read-accepted}
 use Rattle.storm_case.proofs.read_case.Statement.{statement}
 use Rattle.storm_case.proofs.read_case.Tie as tie
 
@@ -79,7 +79,7 @@ fill-requires : tie.Need-fill-requires
 fill-requires c κs =
     let judged = c .before .before .before .before .before .before .before .before in
     let room = judged .before .before .before in
-    fill-asks _ (judged .judge-file .ensures) _ _ (c .before .before .before .before .enum-told2 .given .1) (room .before .if1 .left) (room .if2 .left)
+    fillable _ (judged .judge-file .ensures) _ _ (c .before .before .before .before .enum-told2 .given .1) (room .before .if1 .left) (room .if2 .left)
 
 returns-3 : tie.Need-returns-3
 returns-3 c =
