@@ -1,21 +1,20 @@
 -- Theorem: the judgement accepts exactly the well-formed cases, and says what they say.
 use mathlib.Core.Path.{_≡_, refl, sym, ap, ap₂, subst₂, _∙_}
-use mathlib.Core.Logic.{_≢_, dite, _↔_}
+use mathlib.Core.Logic.{_≢_, _↔_}
 use mathlib.Core.List.{List, [], _∷_, _++_}
 use Prim.Native.Nat.{ℕ, zero, suc, _+_}
-use native.Mathlib.Decide.{decLt}
 use native.Mathlib.Numerals.{add-one}
 use native.Mathlib.Omega.{arith}
-use lib.ListN.{length, drop, length-drop, drop-of-length-le, List·getD-eq-default}
+use lib.ListN.{length, drop, length-drop, drop-of-length-le}
 use lib.Seq.{drop-cons, drop-drop, getD-drop}
-use Rattle.storm_case.specs.Numbers.{u16-at, u32-at}
+use Rattle.storm_case.specs.Numbers.{AreBytes, u16-at, u32-at}
 use Rattle.storm_case.specs.Scan as D
 use Rattle.storm_case.specs.Format.{Line, row, column, little-endian, line-bytes, lines-bytes, encode}
-use Rattle.storm_case.specs.Format.{AreBytes, AllFit, WellFormed, Matches, Accepts, Reads, IsCase}
+use Rattle.storm_case.specs.Format.{AllFit, WellFormed, Matches, Accepts, Reads, IsCase}
 use Rattle.storm_case.proofs.Samples.{example}
 use Rattle.storm_case.proofs.ScanLaws.{good-size, Filled, stays-refused, stays-accepted, accepted-filled}
 use Rattle.storm_case.proofs.OneRecord.{Does, refuses, sizes, adds-row, adds-column, ends, record-does}
-use Rattle.storm_case.proofs.FormatBytes.{column-in, six-back, Small, row-fits, column-fits, row-written, six-written}
+use Rattle.storm_case.proofs.FormatBytes.{column-in, six-back, row-fits, column-fits, row-written, six-written}
 use Rattle.storm_case.proofs.FormatScan.{row-from, column-from, first-kind, Further, no-further, row-further, column-further}
 use Rattle.storm_case.proofs.FormatScan.{further-matches, further-well-formed}
 use Rattle.storm_case.proofs.FormatTaken.{LinesTaken, size-taken, lines-taken, lines-short}
@@ -33,8 +32,8 @@ record Rest (file : List ℕ) (s t : D.Scan) : Type 0 where
 not-accepted : (file : List ℕ) (k number place : ℕ) {t : D.Scan} → D.judge-from file k (D.refused number place) ≡ D.accepted t → ⊥
 not-accepted file k number place e = let z : _≡_ {A = ℕ} 0 1 = cc (stays-refused file k number place) in omega arith
 
-module _ (file : List ℕ) (small : Small file) where
-  small-from : (p : ℕ) → Small (drop p file)
+module _ (file : List ℕ) (small : AreBytes file) where
+  small-from : (p : ℕ) → AreBytes (drop p file)
   small-from p i = rw (getD-drop p file i 0) (small (p + i))
 
   rest-of : (t : D.Scan) (k : ℕ) (s : D.Scan) → s .n ≢ 0 → D.judge-from file k (D.more s) ≡ D.accepted t → Rest file s t
@@ -77,9 +76,6 @@ module _ (file : List ℕ) (small : Small file) where
           })
 
 module _ (file : List ℕ) (bytes : AreBytes file) where
-  are-small : Small file
-  are-small i = dite (decLt i (length file)) (λ l. bytes i l) (λ l. rw (List·getD-eq-default file 0 {n = i} (omega arith)) (omega arith))
-
   -- the size and the window are named by the scan itself
   reads : {s : D.Scan} {n window : ℕ} {lines : List Line} → s .n ≡ n → s .window ≡ window → WellFormed n window lines
       → file ≡ encode n window lines → Matches file s n window lines → Reads file s
@@ -94,10 +90,10 @@ module _ (file : List ℕ) (bytes : AreBytes file) where
   unfolding encode
   first-line k (refuses number place r) q full = absurd (not-accepted file k number place q)
   first-line k {s = s} (sizes r) q full =
-      let h = rest-of file are-small s k _ (r .some) q in
+      let h = rest-of file bytes s k _ (r .some) q in
       let size : List ℕ = little-endian 2 (u16-at file 1) ++ little-endian 4 (u32-at file 3) in
       reads (h .further .same-n) (h .further .same-window) (further-well-formed file (h .further) full (h .fit))
-      (six-written file are-small (r .fits) (r .kind) ∙ ap (λ (l : List ℕ). 1 ∷ (size ++ l)) (h .written)) (further-matches file (h .further) full)
+      (six-written file bytes (r .fits) (r .kind) ∙ ap (λ (l : List ℕ). 1 ∷ (size ++ l)) (h .written)) (further-matches file (h .further) full)
   first-line k (adds-row r) q full = absurd (r .some refl)
   first-line k (adds-column r) q full = absurd (r .some refl)
   first-line k (ends r) q full = absurd (r .some refl)

@@ -54,9 +54,6 @@ lines-bytes (line ∷ lines) = line-bytes line ++ lines-bytes lines
 unfoldable pub encode : ℕ → ℕ → List Line → List ℕ
 encode n window lines = 1 ∷ (little-endian 2 n ++ little-endian 4 window ++ lines-bytes lines)
 
-abbrev pub AreBytes : List ℕ → Type 0
-AreBytes file = (i : ℕ) → i < length file → getD file i 0 < 256
-
 -- ---- well-formed cases
 
 -- numbers that fit their bytes

@@ -9,6 +9,7 @@ use lib.Seq.{getD-take}
 use Rattle.lines.proofs.Tests.{cases}
 use Rattle.steps.proofs.Theorems.{only-answer}
 use Rattle.storm_case.specs.declared.pair.Pairs.{Pairs}
+use Rattle.storm_case.specs.Numbers.{AreBytes}
 use Rattle.storm_case.specs.Scan.{Scan, Judged, more, refused, accepted, judged}
 use Rattle.storm_case.specs.Pair.{Room, fits, front, enough-room, Solved, PairPromise}
 use Rattle.storm_case.proofs.ScanLaws.{never-more, accepted-filled}
@@ -19,7 +20,7 @@ use Rattle.text.proofs.PutLaws.{holds-whole}
 use Rattle.valley.specs.Lines.{row-lines, lines}
 use Rattle.valley.specs.Report.{fresh, Reported}
 use Rattle.valley.proofs.LineLaws.{lines-paired, lines-none, lines-refused}
-use Rattle.valley.proofs.Lengths.{Bytes, short-rows, short-total-line, short-refusal}
+use Rattle.valley.proofs.Lengths.{short-rows, short-total-line, short-refusal}
 
 -- two reports of a file are equal: the count, and every byte of the buffer
 pub only-report : {file out : List ℕ} {r r′ : ℕ} {after after′ : List ℕ}
@@ -54,7 +55,7 @@ room : enough-room fresh ≡ true
 unfolding fits
 room = refl
 
-module _ (file : List ℕ) (bytes : Bytes file) {p : Pairs} {filled : Room} where
+module _ (file : List ℕ) (bytes : AreBytes file) {p : Pairs} {filled : Room} where
   solved-fits : (s : Scan) → judged file ≡ accepted s → Solved file s fresh p filled → length (lines file p (filled .rest .columns)) ≤ 594
   unfolding front
   solved-fits s e x =
@@ -89,6 +90,6 @@ module _ (file : List ℕ) (bytes : Bytes file) {p : Pairs} {filled : Room} wher
           (omega (arith, short-refusal number place (r .1) (r .2)))
 
 -- what is written is the whole text
-pub whole-text : (file : List ℕ) → Bytes file → {out : List ℕ} {r : ℕ} {after : List ℕ} (x : Reported file out r after) → 1024 ≤ length out
+pub whole-text : (file : List ℕ) → AreBytes file → {out : List ℕ} {r : ℕ} {after : List ℕ} (x : Reported file out r after) → 1024 ≤ length out
     → take r after ≡ lines file (x .pairs) (x .filled .rest .columns)
 whole-text file bytes x h = holds-whole (record { held = x .printed }) (omega (arith, text-fits file bytes (x .promise)))

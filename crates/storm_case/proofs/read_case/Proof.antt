@@ -6,6 +6,13 @@ use Rattle.storm_case.proofs.CaseLaws.{cells-room, front-room, fillable
 use Rattle.storm_case.proofs.read_case.Statement.{statement}
 use Rattle.storm_case.proofs.read_case.Tie as tie
 
+-- from the verdict to the judgement, and from there to the room
+abbrev judged : tie.After-events2 → tie.After-judge-file
+judged verdict = verdict .before .before
+
+abbrev room : tie.After-judge-file → tie.Else2
+room file = file .before .before .before
+
 refused-requires : tie.Need-refused-requires
 refused-requires c κs = search needs
 
@@ -16,7 +23,7 @@ refused-requires-2 : tie.Need-refused-requires-2
 refused-requires-2 c κs = search needs
 
 returns-2 : tie.Need-returns-2
-returns-2 c = no-mask-room _ _ _ (c .before .before .if1 .left) (c .before .if2 .taken) (c .refused2 .ensures)
+returns-2 c = let lengths = c .before in no-mask-room _ _ _ (lengths .before .if1 .left) (lengths .if2 .taken) (c .refused2 .ensures)
 
 slice-aggregate-judge-file : tie.Need-slice-aggregate-judge-file
 slice-aggregate-judge-file c = search needs
@@ -43,7 +50,7 @@ enum-told-2 : tie.Need-enum-told-2
 enum-told-2 c = search needs
 
 mul-cells : tie.Need-mul-cells
-mul-cells c = let f = cells-room _ (c .before .before .before .before .judge-file .ensures) in omega arith
+mul-cells c = let cells = cells-room _ (judged (c .before .before) .judge-file .ensures) in omega arith
 
 slice-aggregate-fill : tie.Need-slice-aggregate-fill
 slice-aggregate-fill c = search needs
@@ -53,45 +60,45 @@ slice-aggregate-fill-2 c = search needs
 
 slice-relend-prefix-fill : tie.Need-slice-relend-prefix-fill
 slice-relend-prefix-fill c =
-    let judged = c .before .before .before .before .before .before in
-    let room = judged .before .before .before in
-    omega (arith, cells-room _ (judged .judge-file .ensures), room .before .if1 .left)
+    let accepted = c .before .before in
+    let file = judged (accepted .before .before) in
+    omega (arith, cells-room _ (file .judge-file .ensures), room file .before .if1 .left)
 
 slice-aggregate-fill-3 : tie.Need-slice-aggregate-fill-3
 slice-aggregate-fill-3 c =
-    let judged = c .before .before .before .before .before .before .before in
-    let room = judged .before .before .before in
-    sym (front-room _ (judged .judge-file .ensures) _ (room .before .if1 .left))
+    let accepted = c .before .before .before in
+    let file = judged (accepted .before .before) in
+    sym (front-room _ (file .judge-file .ensures) _ (room file .before .if1 .left))
 
 slice-relend-prefix-fill-2 : tie.Need-slice-relend-prefix-fill-2
 slice-relend-prefix-fill-2 c =
-    let judged = c .before .before .before .before .before .before .before in
-    let room = judged .before .before .before in
-    omega (arith, cells-room _ (judged .judge-file .ensures), room .if2 .left)
+    let accepted = c .before .before .before in
+    let file = judged (accepted .before .before) in
+    omega (arith, cells-room _ (file .judge-file .ensures), room file .if2 .left)
 
 slice-aggregate-fill-4 : tie.Need-slice-aggregate-fill-4
 slice-aggregate-fill-4 c =
-    let judged = c .before .before .before .before .before .before .before .before in
-    let room = judged .before .before .before in
-    sym (front-room _ (judged .judge-file .ensures) _ (room .if2 .left))
+    let accepted = c .before .before .before .before in
+    let file = judged (accepted .before .before) in
+    sym (front-room _ (file .judge-file .ensures) _ (room file .if2 .left))
 
 fill-requires : tie.Need-fill-requires
 fill-requires c κs =
-    let judged = c .before .before .before .before .before .before .before .before in
-    let room = judged .before .before .before in
-    fillable _ (judged .judge-file .ensures) _ _ (c .before .before .before .before .enum-told2 .given .1) (room .before .if1 .left) (room .if2 .left)
+    let accepted = c .before .before .before .before in
+    let file = judged (accepted .before .before) in
+    fillable _ (file .judge-file .ensures) _ _ (accepted .enum-told2 .given .1) (room file .before .if1 .left) (room file .if2 .left)
 
 returns-3 : tie.Need-returns-3
 returns-3 c =
-    let judged = c .before .before .before .before .before in
-    let room = judged .before .before .before in
-    read-more _ _ _ (room .before .if1 .left) (room .if2 .left) (judged .judge-file .ensures) (c .before .enum-told .given .1) (c .refused3 .ensures)
+    let more = c .before in
+    let file = judged (more .before .before) in
+    read-more _ _ _ (room file .before .if1 .left) (room file .if2 .left) (file .judge-file .ensures) (more .enum-told .given .1) (c .refused3 .ensures)
 
 returns-4 : tie.Need-returns-4
 returns-4 c =
-    let judged = c .before .before .before .before .before .before in
-    let room = judged .before .before .before in
-    read-refused _ _ _ (room .before .if1 .left) (room .if2 .left) (judged .judge-file .ensures) (c .before .before .judged .given .1) (c .refused4 .ensures)
+    let refused = c .before .before in
+    let file = judged (refused .before .before) in
+    read-refused _ _ _ (room file .before .if1 .left) (room file .if2 .left) (file .judge-file .ensures) (refused .judged .given .1) (c .refused4 .ensures)
 
 same-length : tie.Need-same-length
 same-length c = search needs
@@ -102,10 +109,9 @@ same-length-2 c = search needs
 returns-5 : tie.Need-returns-5
 returns-5 c =
     let filled = c .before .before .before in
-    let told = filled .before .before .before .before .before in
-    let judged = told .before .before .before .before in
-    let room = judged .before .before .before in
-    read-accepted _ _ _ (room .before .if1 .left) (room .if2 .left) (judged .judge-file .ensures) (told .enum-told2 .given .1) (filled .fill .ensures)
+    let accepted = filled .before .before .before .before .before in
+    let file = judged (accepted .before .before) in
+    read-accepted _ _ _ (room file .before .if1 .left) (room file .if2 .left) (file .judge-file .ensures) (accepted .enum-told2 .given .1) (filled .fill .ensures)
 
 pub read-case-spec : {M : Type 1} → statement M
 read-case-spec =

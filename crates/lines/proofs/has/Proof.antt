@@ -1,8 +1,8 @@
 -- `has` meets its contract: the shift and the mask leave the digit of the line.
 use borrow.Author.Needs.{needs}
 use Rattle.lines.proofs.Bits.{has-shr}
-use Rattle.price_list.proofs.numbers.has.Statement.{statement}
-use Rattle.price_list.proofs.numbers.has.Tie as tie
+use Rattle.lines.proofs.has.Statement.{statement}
+use Rattle.lines.proofs.has.Tie as tie
 
 shr-result : tie.Need-shr-result
 shr-result c = search needs
