@@ -6,7 +6,8 @@ use native.Mathlib.Omega.{arith}
 use lib.Dec.{T, ltb, ltb→lt, lt→ltb}
 use Rattle.lines.specs.Sum.{sum}
 use Rattle.lines.specs.Count.{bit, count}
-use Rattle.lines.proofs.Puts.{put, put-map, put-off}
+use Rattle.lines.specs.Put.{put}
+use Rattle.lines.proofs.Puts.{put-map, put-off}
 use Rattle.lines.proofs.Sums.{sum-ext, sum-mono, sum-add, le-sum, sum-const, sum-put}
 
 -- ---- sums under a guard

@@ -3,10 +3,7 @@ use mathlib.Core.Path.{_≡_, sym, ap, _∙_}
 use mathlib.Core.Logic.{_≢_, ite, dite, if-pos, if-neg, apply-ite}
 use Prim.Native.Nat.{ℕ}
 use native.Mathlib.Decide.{ℕ-discrete}
-
--- f with the value x at v
-unfoldable pub put {ℓ} : {A : Type ℓ} → (ℕ → A) → ℕ → A → ℕ → A
-put f v x j = ite (ℕ-discrete j v) x (f j)
+use Rattle.lines.specs.Put.{put}
 
 pub put-at {ℓ} : {A : Type ℓ} (f : ℕ → A) (v : ℕ) (x : A) (j : ℕ) → j ≡ v → put f v x j ≡ x
 unfolding put

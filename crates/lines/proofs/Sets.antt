@@ -16,7 +16,8 @@ use Rattle.lines.specs.Sum.{sum}
 use Rattle.lines.specs.Count.{bit, count}
 use Rattle.lines.specs.Sets.{has, with, without, all, rest, those}
 use Rattle.lines.proofs.Tests.{by-cases, clash}
-use Rattle.lines.proofs.Puts.{put, put-at, put-off}
+use Rattle.lines.specs.Put.{put}
+use Rattle.lines.proofs.Puts.{put-at, put-off}
 use Rattle.lines.proofs.Sums.{sum-front}
 use Rattle.lines.proofs.Counts.{count-ext}
 

@@ -2,10 +2,11 @@
 -- An integer z is `P z - N z`. Each fact of integers is a linear fact of those parts, and none needs to know that one of the parts is 0.
 -- `omega (signed, plus-parts a b, ..)` proves a linear goal over the integers: an order, an equation, or a fit.
 use mathlib.Core.Path.{_≡_, refl, sym, ap, subst}
-use mathlib.Core.Bool.{Bool, true, false, cond}
+use mathlib.Core.Bool.{Bool, true, false}
 use Prim.Native.Nat.{ℕ, zero, suc, _+_, _-_, _≤_, _<_, _^_}
 use native.Mathlib.Omega.{arith}
 use lib.Dec.{T, ltb, leb, ltb→lt, nltb→le, leb→le, le→leb, lt→ltb}
+use Rattle.lines.specs.Bounds.{Within}
 use Rattle.lines.proofs.Tests.{cond-ind}
 use lib.IntN.{ℤ, pos, negsuc, negℤ, subℕ, _+ℤ_, _-ℤ_}
 use lib.Signed.{_≤ℤ_, ltZ, mag}
@@ -150,11 +151,6 @@ parts-sfits w (negsuc n) h = record { sfits = omega arith }
 pub ruleset signed = (arith, le-parts, ltZ-parts, nltZ-parts, eq-parts, parts-le, parts-eq, parts-ltZ, parts-nltZ, parts-sfits)
 
 -- ---- bounds
-
--- z is at most L away from 0
-pub record Within (L : ℕ) (z : ℤ) : Type 0 where
-  pub above : negℤ (pos L) ≤ℤ z
-  pub below : z ≤ℤ pos L
 
 pub within-zero : (L : ℕ) → Within L (pos 0)
 within-zero L = record { above = omega (signed, neg-parts (pos L)); below = omega signed }

@@ -10,7 +10,8 @@ use lib.Arith.{digits-lt, digits-div, digits-mod}
 use lib.ListN.{length, getD, set, List·getD-eq-default}
 use lib.Seq.{getD-set-same, getD-set-other}
 use Rattle.lines.specs.Square.{cell, table, square, each-from, each}
-use Rattle.lines.proofs.Puts.{put, put-at, put-off, put2, put2-at, put2-off}
+use Rattle.lines.specs.Put.{put}
+use Rattle.lines.proofs.Puts.{put-at, put-off, put2, put2-at, put2-off}
 
 -- ---- places
 

@@ -6,7 +6,8 @@ use native.Mathlib.Nat.{suc-sub-suc, sub-zero, le-antisymm}
 use native.Mathlib.Decide.{ℕ-discrete}
 use native.Mathlib.Omega.{arith}
 use Rattle.lines.specs.Sum.{sum}
-use Rattle.lines.proofs.Puts.{put, put-at, put-off}
+use Rattle.lines.specs.Put.{put}
+use Rattle.lines.proofs.Puts.{put-at, put-off}
 
 -- two summands that agree, or are ordered, below n
 pub sum-ext : (f g : ℕ → ℕ) (n : ℕ) → ((i : ℕ) → i < n → f i ≡ g i) → sum f n ≡ sum g n

@@ -8,7 +8,8 @@ use native.Mathlib.Omega.{arith}
 use lib.IntN.{ℤ, pos, _+ℤ_}
 use lib.Signed.{_≤ℤ_, ≤ℤ-refl}
 use Rattle.lines.specs.Sum.{sum, sumℤ}
-use Rattle.lines.proofs.Signed.{P, N, signed, neg-parts, plus-parts, Within, within-zero}
+use Rattle.lines.specs.Bounds.{Within}
+use Rattle.lines.proofs.Signed.{P, N, signed, neg-parts, plus-parts, within-zero}
 
 pub sumℤ-ext : (f g : ℕ → ℤ) (n : ℕ) → ((i : ℕ) → i < n → f i ≡ g i) → sumℤ f n ≡ sumℤ g n
 unfolding sumℤ

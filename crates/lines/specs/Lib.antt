@@ -3,3 +3,5 @@ pub mod Count
 pub mod First
 pub mod Square
 pub mod Sets
+pub mod Bounds
+pub mod Put

@@ -7,8 +7,9 @@ use lib.IntN.{ℤ}
 use Rattle.steps.specs.Lent.{allows}
 use Rattle.steps.specs.Steps as S
 use Rattle.steps.specs.Steps.{Run, Machine, machine}
-use Rattle.steps.proofs.Runs.{over, stays, steps-last}
-use Rattle.steps.proofs.Settles.{left}
+use Rattle.steps.specs.Counts.{over}
+use Rattle.steps.proofs.Runs.{stays, steps-last}
+use Rattle.steps.specs.Bounds.{left}
 use Rattle.munkres.specs.Good.{Good, Came}
 use Rattle.munkres.proofs.GoodLaws.{good-step, good-falls}
 

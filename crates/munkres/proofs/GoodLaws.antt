@@ -3,29 +3,26 @@ use mathlib.Core.Path.{_≡_, sym, ap, subst, _∙_}
 use mathlib.Core.Logic.{_≢_}
 use mathlib.Core.Bool.{Bool, true, false}
 use mathlib.Core.List.{List}
-use Prim.Native.Nat.{ℕ, _+_, _-_, _*_, _^_, _≤_, _<_}
-use native.Mathlib.Nat.{mul-le-mul}
+use Prim.Native.Nat.{ℕ, _+_, _-_, _*_, _^_, _<_}
 use native.Mathlib.Omega.{arith}
-use lib.Dec.{T, ltb, lt→ltb, eqb}
+use lib.Dec.{ltb, lt→ltb, eqb}
 use lib.IntN.{ℤ, pos}
 use lib.ListN.{getD}
 use mir.Syntax.{w64}
-use Rattle.lines.specs.Count.{count}
 use Rattle.lines.proofs.Tests.{T-true, T-false, eqb-no}
-use Rattle.lines.proofs.Counts.{count-le}
 use Rattle.lines.proofs.Signed.{within-fits}
 use Rattle.steps.specs.Lent.{allows}
 use Rattle.steps.specs.Steps as S
-use Rattle.steps.specs.Steps.{Next, Machine, machine, star-in-row, star-count, lowest, followed, lowered, raised}
-use Rattle.steps.proofs.Runs.{over}
+use Rattle.steps.specs.Steps.{Next, Machine, machine, lowest, followed, lowered, raised}
+use Rattle.steps.specs.Counts.{over}
 use Rattle.steps.proofs.Marks.{find-star, mark-is-star}
-use Rattle.steps.proofs.Path.{Ends}
+use Rattle.steps.specs.Going.{Ends, Starred, Sound-at}
 use Rattle.steps.proofs.Theorems.{ready-ends}
-use Rattle.steps.proofs.Search.{Starred, Sound-at}
-use Rattle.steps.proofs.Pace.{Paced-at, few-stars}
-use Rattle.steps.proofs.Fresh.{fresh-step, first-stars, adjusts-before, primes-before, ceilings-within}
+use Rattle.steps.proofs.Fresh.{going-step}
+use Rattle.steps.proofs.Few.{few-step}
 use Rattle.steps.proofs.Limited.{limited-step, limits}
-use Rattle.steps.proofs.Settles.{left, falls}
+use Rattle.steps.specs.Bounds.{left}
+use Rattle.steps.proofs.Settles.{falls}
 use Rattle.steps.proofs.Budget.{within}
 use Rattle.munkres.specs.Square.{Square}
 use Rattle.munkres.specs.Good.{OneStarARow, Adjusts, Good}
@@ -50,14 +47,19 @@ module _ {n : ℕ} {mask : List ℕ} {budget : ℕ} {m : Machine} (g : Good n ma
     flags = g .flags;
     spare = within n ok budget m (g .spare);
     cost = g .cost;
-    rows = g .rows;
     range = g .range;
-    fresh = fresh-step n ok (g .cost) budget m (g .fresh);
-    limited = limited-step n ok (g .cost) (g .range) budget m (g .fresh .shape) (g .fresh .sound) (g .fresh .priced) (g .limited);
+    going = going-step n ok (g .cost) budget m (g .going);
+    row-bound = g .row-bound;
+    column-bound = g .column-bound;
+    limited = limited-step n ok (g .cost) (g .range) budget m (g .going .shape) (g .going .sound) (g .going .priced) (g .limited);
+    fits = g .fits;
+    most = g .most;
+    few = few-step n ok budget (g .most) m (g .going .shape) (g .going .sound) (g .few);
+    counts = g .counts;
   }
 
   pub good-falls : over (m .run .next) ≡ false → left n ok (S.step n ok budget m) < left n ok m
-  good-falls o = falls n ok budget m (g .fresh .shape) (g .fresh .sound) o
+  good-falls o = falls n ok budget m (g .going .shape) (g .going .sound) o
 
   -- ---- what the steps ask
 
@@ -65,32 +67,22 @@ module _ {n : ℕ} {mask : List ℕ} {budget : ℕ} {m : Machine} (g : Good n ma
   square-mask = record { small = g .small; size = g .masked }
 
   pub square-working : Square n (m .working)
-  square-working = record { small = g .small; size = g .fresh .shape .working }
+  square-working = record { small = g .small; size = g .going .shape .working }
 
   pub square-marks : Square n (m .marks)
-  square-marks = record { small = g .small; size = g .fresh .shape .marks }
+  square-marks = record { small = g .small; size = g .going .shape .marks }
 
   sound-at : (x : Next) → m .run .next ≡ x → Sound-at n ok x m
-  sound-at x e = subst (λ x. Sound-at n ok x m) e (g .fresh .sound .at-next)
-
-  paced-at : (x : Next) → m .run .next ≡ x → Paced-at n ok (first-stars n ok (g .cost)) adjusts-before primes-before x m
-  paced-at x e = subst (λ x. Paced-at n ok (first-stars n ok (g .cost)) adjusts-before primes-before x m) e (g .fresh .paced .at-next)
+  sound-at x e = subst (λ x. Sound-at n ok x m) e (g .going .sound .at-next)
 
   pub at-step3 : m .run .next ≡ S.Step3 → OneStarARow n (m .marks)
   at-step3 e = one-star (sound-at S.Step3 e .0)
 
   pub at-step4 : m .run .next ≡ S.Step4 → m .run .primes + 1 < 2 ^ 32
-  at-step4 e =
-      let s = sound-at S.Step4 e in
-      let p = paced-at S.Step4 e in
-      let c = ceilings-within n ok (g .cost) (g .some) (g .rows) (p .pace) (few-stars n ok s) (p .room) (omega (arith, p .room)) in
-      omega (arith, c .1, mul-le-mul (g .small) (let h : n + 1 ≤ 65 = omega (arith, g .small) in h))
+  at-step4 e = omega (arith, good-falls (ap over e), g .few .primes, g .counts)
 
   pub at-step5 : (i j : ℕ) → m .run .next ≡ S.Step5 i j → m .run .augmentations + 1 < 2 ^ 32
-  unfolding star-count
-  at-step5 i j e =
-      let p = paced-at (S.Step5 i j) e in
-      omega (arith, p .augmentations, g .small, count-le (λ i. ltb (star-in-row n (m .marks) i) n) n)
+  at-step5 i j e = omega (arith, good-falls (ap over e), g .few .augmentations, g .counts)
 
   pub at-path : (i j : ℕ) → m .run .next ≡ S.Step5 i j → Ends n (m .marks) n i j
   at-path i j e = ready-ends n ok (sound-at (S.Step5 i j) e)
@@ -110,13 +102,10 @@ module _ {n : ℕ} {mask : List ℕ} {budget : ℕ} {m : Machine} (g : Good n ma
   at-step6 e ne h =
       let to = adjusts-to e ne h in
       let next = rw to at good-step in
-      let now = limits n ok (g .cost) (g .range) m (g .some) (g .fresh .sound) (g .fresh .priced) (g .limited) in
-      let l = limits n ok (next .cost) (next .range) _ (next .some) (next .fresh .sound) (next .fresh .priced) (next .limited) in (
-        within-fits w64 (now .working _ h) small,
-        λ q hq. within-fits w64 (l .working q (omega (arith, next .fresh .shape .working))) small,
-        λ i hi. within-fits w64 (l .row-prices i (omega (arith, next .fresh .shape .row-prices))) small,
-        λ j hj. within-fits w64 (l .column-prices j (omega (arith, next .fresh .shape .column-prices))) small,
+      let now = limits n ok (g .cost) (g .range) m (g .some) (g .going .sound) (g .going .priced) (g .limited) in
+      let l = limits n ok (next .cost) (next .range) _ (next .some) (next .going .sound) (next .going .priced) (next .limited) in (
+        within-fits w64 (now .cells _ h) (g .fits),
+        λ q hq. within-fits w64 (l .cells q (omega (arith, next .going .shape .working))) (next .fits),
+        λ i hi. within-fits w64 (l .rows i (omega (arith, next .going .shape .row-prices))) (next .fits),
+        λ j hj. within-fits w64 (l .columns j (omega (arith, next .going .shape .column-prices))) (next .fits),
       )
-    where
-      small : 1_000_000_000 + 5 * 0 + 1_000_000_000 + 4 * 1_000_000_000 * n < 2 ^ 63
-      small = omega (arith, g .small)

@@ -1,4 +1,3 @@
-pub mod Masks
 pub mod Flags
 pub mod Zeros
 pub mod Values

@@ -22,8 +22,7 @@ use Rattle.lines.proofs.Firsts.{first-is, first-ext, first-none, any-yes}
 use Rattle.lines.proofs.Sets.{ext, has-empty, has-those, has-with, those-lt, with-lt}
 use Rattle.lines.proofs.Squares.{cell-set, length-square, square-all}
 use Rattle.lines.proofs.Loops.{any-more, count-yes, count-no}
-use Rattle.steps.specs.Steps.{Run, Step3, Step4, Paired, run-with, machine, star-in-row, star-in-column, star-columns, star-count}
-use Rattle.steps.specs.Steps.{excess, row-price, zero-at, free-zero, star-row, step2, start, step3}
+use Rattle.steps.specs.Steps.{Run, Step3, Step4, Paired, run-with, machine, star-in-row, star-in-column, star-columns, star-count, excess, row-price, zero-at, free-zero, star-row, step2, start, step3}
 use Rattle.munkres.specs.Good.{OneStarARow}
 
 -- ---- step 2

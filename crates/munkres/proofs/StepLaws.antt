@@ -1,12 +1,12 @@
 -- Steps 4 and 6 as the code leaves them: what its searches answered, and the step's result in that form.
 use mathlib.Core.Path.{_≡_, refl, sym}
 use mathlib.Core.Logic.{_≢_}
-use mathlib.Core.Bool.{Bool, true, false, not, cond}
+use mathlib.Core.Bool.{Bool, true, false, cond}
 use mathlib.Core.List.{List}
 use Prim.Native.Nat.{ℕ, _+_, _*_, _≤_, _<_}
 use native.Mathlib.Nat.{mul-le-mul}
 use native.Mathlib.Omega.{arith}
-use lib.Dec.{T, not-T, ltb, ltb→lt, lt→ltb, eqb}
+use lib.Dec.{not-T, ltb, ltb→lt, lt→ltb, eqb}
 use lib.IntN.{ℤ, pos}
 use lib.ListN.{getD, set}
 use mir.Syntax.{w64}

@@ -9,7 +9,8 @@ use mir.Val.{SFits, toZ, ofZ}
 use mir.Facts.{toZ-ofZ}
 use Rattle.lines.specs.Sum.{sumℤ}
 use Rattle.lines.specs.Square.{table}
-use Rattle.lines.proofs.Signed.{Within, within-fits}
+use Rattle.lines.specs.Bounds.{Within}
+use Rattle.lines.proofs.Signed.{within-fits}
 use Rattle.lines.proofs.Sumsℤ.{sumℤ-ext, sumℤ-within}
 use Rattle.lines.proofs.Squares.{table-at}
 use Rattle.lines.proofs.Loops.{sumℤ-more}

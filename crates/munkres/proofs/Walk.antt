@@ -13,7 +13,8 @@ use lib.Seq.{getD-set-same, getD-set-other}
 use Rattle.lines.specs.Square.{cell}
 use Rattle.lines.proofs.Firsts.{first-is}
 use Rattle.steps.specs.Steps.{star-in-column, prime-in-row, path, flip}
-use Rattle.steps.proofs.Path.{Ends, path-last, path-more, Inside, path-inside}
+use Rattle.steps.specs.Going.{Ends}
+use Rattle.steps.proofs.Path.{path-last, path-more, Inside, path-inside}
 use Rattle.munkres.specs.Square.{Square}
 use Rattle.munkres.specs.Path.{zipped}
 

@@ -10,7 +10,8 @@ use mir.Syntax.{w32, w64}
 use mir.Val.{SFits, toZ, ofZ}
 use mir.Facts.{toZ-ofZ}
 use Rattle.lines.specs.Square.{each}
-use Rattle.lines.proofs.Signed.{signed, neg-parts, minus-parts, size, Within, within-fits}
+use Rattle.lines.specs.Bounds.{Within}
+use Rattle.lines.proofs.Signed.{signed, neg-parts, minus-parts, size, within-fits}
 use Rattle.lines.proofs.Squares.{place-lt, place-of, length-each, each-at}
 use Rattle.munkres.specs.Square.{Fit64}
 

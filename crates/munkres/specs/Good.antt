@@ -3,25 +3,21 @@ use mathlib.Core.Path.{_≡_}
 use mathlib.Core.Logic.{_≢_}
 use mathlib.Core.Bool.{Bool, true}
 use mathlib.Core.List.{List}
-use Prim.Native.Nat.{ℕ, _*_, _≤_, _<_}
+use Prim.Native.Nat.{ℕ, _*_, _^_, _≤_, _<_}
 use lib.Dec.{T}
 use lib.IntN.{ℤ, pos}
 use lib.ListN.{length, getD}
 use mir.Syntax.{w64}
 use mir.Val.{SFits}
 use Rattle.lines.specs.First.{any}
-use Rattle.lines.specs.Sets.{rest}
-use Rattle.lines.specs.Square.{cell, table}
-use Rattle.lines.proofs.Signed.{Within}
-use Rattle.assignment.specs.Problem.{total}
-use Rattle.steps.specs.declared.Answer.{Answer}
-use Rattle.steps.specs.Lent.{allows, cost-at}
-use Rattle.steps.specs.Steps.{Next, Step3, Step4, Step5, Step6, Paired, NoPairing, Unfinished, Run, Machine, star-in-row, lowest, followed, lowered, raised, steps}
-use Rattle.steps.specs.Outcome.{answer}
-use Rattle.steps.proofs.Runs.{over}
-use Rattle.steps.proofs.Fresh.{Fresh}
-use Rattle.steps.proofs.Limited.{Limited}
-use Rattle.munkres.specs.Square.{Flags, Fit64}
+use Rattle.lines.specs.Square.{cell}
+use Rattle.lines.specs.Bounds.{Within}
+use Rattle.steps.specs.Lent.{most-cost, allows, cost-at}
+use Rattle.steps.specs.Steps.{Next, Paired, Run, Machine, star-in-row, lowest, followed, lowered, raised, steps}
+use Rattle.steps.specs.Counts.{over}
+use Rattle.steps.specs.Going.{Going}
+use Rattle.steps.specs.Bounds.{limit, Limited, Few}
+use Rattle.munkres.specs.Square.{Square, Flags, Fit64}
 
 -- a star is the first of its row, so its only one
 abbrev pub OneStarARow : ℕ → List ℕ → Type 0
@@ -38,18 +34,16 @@ Adjusts n ok budget r working row-prices column-prices =
 abbrev pub Startable : ℕ → List ℕ → Type 0
 Startable n mask = (i : ℕ) → i < n → T (any (allows n mask i) n)
 
--- what an end gives back: the answer, and the columns. A run that is at no end is unfinished.
-abbrev pub Given : ℕ → List ℤ → Run → List ℕ → List ℕ → Next → Answer → List ℕ → Type 0
-Given n costs r marks before Paired a columns =
-    (columns ≡ table (star-in-row n marks) n) × (a ≡ answer 0 0 (total (cost-at n costs) n (table (star-in-row n marks) n)) r 0 0)
-Given n costs r marks before NoPairing a columns = (columns ≡ before) × (a ≡ answer 6 0 (pos 0) r (rest n (r .rows)) (rest n (r .columns)))
-Given n costs r marks before Unfinished a columns = (columns ≡ before) × (a ≡ answer 7 0 (pos 0) r 0 0)
-Given n costs r marks before Step3 a columns = (columns ≡ before) × (a ≡ answer 7 0 (pos 0) r 0 0)
-Given n costs r marks before Step4 a columns = (columns ≡ before) × (a ≡ answer 7 0 (pos 0) r 0 0)
-Given n costs r marks before (Step5 i j) a columns = (columns ≡ before) × (a ≡ answer 7 0 (pos 0) r 0 0)
-Given n costs r marks before Step6 a columns = (columns ≡ before) × (a ≡ answer 7 0 (pos 0) r 0 0)
+-- what is asked where the answer is given: the run is at an end, and at a pairing every row's star has a cost in range
+pub record Finishes (n : ℕ) (costs : List ℤ) (next : Next) (marks columns : List ℕ) : Type 0 where
+  pub some : 1 ≤ n
+  pub costs-square : Square n costs
+  pub marks-square : Square n marks
+  pub lines : length columns ≡ n
+  pub ended : over next ≡ true
+  pub stars : next ≡ Paired → (i : ℕ) → i < n → (star-in-row n marks i < n) × Within most-cost (cost-at n costs i (star-in-row n marks i))
 
--- what holds of the machine between two steps of an accepted call
+-- what holds of the machine between two steps of a run, wherever it began
 pub record Good (n : ℕ) (mask : List ℕ) (budget : ℕ) (m : Machine) : Type 0 where
   pub some : 0 < n
   pub small : n ≤ 64
@@ -57,10 +51,17 @@ pub record Good (n : ℕ) (mask : List ℕ) (budget : ℕ) (m : Machine) : Type 
   pub flags : Flags mask
   pub spare : m .run .adjustments ≤ budget
   pub cost : ℕ → ℕ → ℤ
-  pub rows : (i : ℕ) → i < n → T (any (allows n mask i) n)
-  pub range : (i j : ℕ) → i < n → j < n → T (allows n mask i j) → Within 1_000_000_000 (cost i j)
-  pub fresh : Fresh n (allows n mask) cost m
-  pub limited : Limited n 1_000_000_000 1_000_000_000 0 m
+  pub range : (i j : ℕ) → i < n → j < n → T (allows n mask i j) → Within most-cost (cost i j)
+  pub going : Going n (allows n mask) cost m
+  -- by the prices that the run began with all values fit 64 bits
+  pub row-bound : ℕ
+  pub column-bound : ℕ
+  pub limited : Limited n most-cost row-bound column-bound m
+  pub fits : limit n most-cost row-bound column-bound < 2 ^ 63
+  -- no count outgrows 32 bits
+  pub most : ℕ
+  pub few : Few n (allows n mask) most m
+  pub counts : most < 2 ^ 32
 
 -- some number of steps leads from one machine to another, which is at an end
 pub record Came (n : ℕ) (mask : List ℕ) (budget : ℕ) (before after : Machine) : Type 0 where

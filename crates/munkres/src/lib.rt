@@ -1,31 +1,31 @@
 // The solver: document 01's steps 1 to 6, the run, and `solve_assignment`.
 ghost use mathlib.Core.Path.{_≡_};
-ghost use mathlib.Core.Logic.{_≢_};
-ghost use mathlib.Core.Bool.{true, not, _&&_};
+ghost use mathlib.Core.Bool.{true};
+ghost use mathlib.Core.Option.{some, Option·map};
 ghost use Prim.Native.Nat.{ℕ, _+_, _*_, _^_, _<_, _≤_};
 ghost use lib.ListN.{length};
 ghost use lib.IntN.{pos};
 ghost use Rattle.lines.specs.First.{first};
 ghost use Rattle.lines.specs.Sets.{has};
 ghost use Rattle.lines.specs.Square.{table, square};
-ghost use Rattle.steps.specs.Lent.{allows, cost-at};
-ghost use Rattle.steps.specs.Refusal.{accepted, lengths, verdict};
-ghost use Rattle.steps.specs.Steps.{Paired, machine, star-in-row, zero-at, step2, step3, step4, step5, step6, step as Steps·step, start as Steps·start};
+ghost use Rattle.steps.specs.Lent.{most-cost, allows, cost-at, task, buffers};
+ghost use Rattle.steps.specs.Refusal.{accepted, verdict};
+ghost use Rattle.steps.specs.Steps.{end-of, machine, star-in-row, step2, step3, step4, step5, step6, step as Steps·step, start as Steps·start};
 ghost use Rattle.assignment.specs.Problem.{total};
-ghost use Rattle.lines.proofs.Signed.{Within};
-ghost use Rattle.steps.specs.Outcome.{Outcome, no-run, answer as Outcome·answer};
+ghost use Rattle.lines.specs.Bounds.{Within};
+ghost use Rattle.steps.specs.Outcome.{Outcome, no-run, given, answer as Outcome·answer};
 ghost use Rattle.steps.specs.Promise.{Promise};
-ghost use Rattle.steps.proofs.Runs.{over};
-ghost use Rattle.munkres.specs.Square.{Square, Flags, Fit64};
-ghost use Rattle.steps.proofs.Path.{Ends};
-ghost use Rattle.munkres.specs.View.{view, view-next, view-verdict, task, buffers, lent};
-ghost use Rattle.munkres.specs.Good.{OneStarARow, Adjusts, Startable, Given, Good, Came};
+ghost use Rattle.steps.specs.Counts.{over};
+ghost use Rattle.munkres.specs.Square.{Square, Flags};
+ghost use Rattle.steps.specs.Going.{Ends};
+ghost use Rattle.munkres.specs.View.{view, view-next};
+ghost use Rattle.munkres.specs.Good.{OneStarARow, Adjusts, Startable, Finishes, Good, Came};
+use rules::Verdict;
 use steps::Answer;
 
 mod coverage;
 mod mark_matrix;
 mod path;
-mod refusal;
 mod weight_matrix;
 
 // The step to make, with the place that it carries; or an end.
@@ -47,13 +47,6 @@ struct Run {
     primes: u32,
     augmentations: u32,
     next: Next,
-}
-
-// What is found before the steps begin: a refusal with its number and place, a row without an allowed cell, or nothing.
-enum Verdict {
-    Refused(u32, usize),
-    Dead(usize),
-    Accepted,
 }
 
 // ---- step 2
@@ -351,8 +344,8 @@ fn start(
 
 // The column of each row's star is chosen. Returns the total.
 fn choose_columns(n: usize, costs: &[i32], marks: &[u8], columns: &mut [u16]) -> i64
-    requires { ⌜ Square n (now costs) × Square n (now marks) × (length (now columns) ≡ n) × ((i : ℕ) → i < n → star-in-row n (now marks) i < n)
-        × ((i : ℕ) → i < n → Within 1000000000 (cost-at n (now costs) i (star-in-row n (now marks) i))) ⌝ }
+    requires { ⌜ Square n (now costs) × Square n (now marks) × (length (now columns) ≡ n)
+        × ((i : ℕ) → i < n → (star-in-row n (now marks) i < n) × Within most-cost (cost-at n (now costs) i (star-in-row n (now marks) i))) ⌝ }
     ensures { λ r. ⌜ (now (columns .exit) ≡ table (star-in-row n (now (marks .entry))) n) × (r ≡ total (cost-at n (now (costs .entry))) n (table (star-in-row n (now (marks .entry))) n)) ⌝ }
 {
     let mut sum = 0i64;
@@ -396,11 +389,11 @@ fn refused(number: u32, place: usize, rows: u64, columns: u64) -> Answer
     }
 }
 
-// What an end gives back; elsewhere the run is unfinished.
+// What an end gives back.
 fn finish(n: usize, costs: &[i32], run: Run, marks: &[u8], columns: &mut [u16]) -> Answer
-    requires { ⌜ Square n (now costs) × Square n (now marks) × (length (now columns) ≡ n) × (1 ≤ n)
-        × (view-next (run .next) ≡ Paired → (i : ℕ) → i < n → (star-in-row n (now marks) i < n) × Within 1000000000 (cost-at n (now costs) i (star-in-row n (now marks) i))) ⌝ }
-    ensures { λ r. ⌜ Given n (now (costs .entry)) (view run) (now (marks .entry)) (now (columns .entry)) (view-next (run .next)) r (now (columns .exit)) ⌝ }
+    requires { ⌜ Finishes n (now costs) (view-next (run .next)) (now marks) (now columns) ⌝ }
+    ensures { λ r. ⌜ Option·map (given n (cost-at n (now (costs .entry))) (view run) (now (marks .entry)) (now (columns .entry))) (end-of (view-next (run .next)))
+        ≡ some (r, now (columns .exit)) ⌝ }
 {
     let next = run.next;
     match next {
@@ -419,11 +412,7 @@ fn finish(n: usize, costs: &[i32], run: Run, marks: &[u8], columns: &mut [u16]) 
                 coverage::uncovered_lines(n, lines),
             )
         }
-        Next::Unfinished => answer(7, 0, run, 0, 0),
-        Next::Step3 => answer(7, 0, run, 0, 0),
-        Next::Step4 => answer(7, 0, run, 0, 0),
-        Next::Step5(_, _) => answer(7, 0, run, 0, 0),
-        Next::Step6 => answer(7, 0, run, 0, 0),
+        _ => answer(7, 0, run, 0, 0),
     }
 }
 
@@ -458,88 +447,6 @@ fn solve(
     finish(n, costs, ended, marks, columns)
 }
 
-// Has every buffer exactly its length?
-fn has_lengths(
-    n: usize,
-    costs: &[i32],
-    mask: &[u8],
-    working: usize,
-    marks: usize,
-    columns: usize,
-    row_prices: usize,
-    column_prices: usize,
-) -> bool
-    requires { ⌜ n ≤ 64 ⌝ }
-    ensures { λ r. ⌜ r ≡ lengths (task n (now (costs .entry)) (now (mask .entry)) 0) (lent working marks columns «row_prices» «column_prices») ⌝ }
-{
-    let cells = n * n;
-    if costs.len() != cells {
-        return false;
-    }
-    if mask.len() != cells {
-        return false;
-    }
-    if working != cells {
-        return false;
-    }
-    if marks != cells {
-        return false;
-    }
-    if columns != n {
-        return false;
-    }
-    if row_prices != n {
-        return false;
-    }
-    column_prices == n
-}
-
-// Rules 1 to 5 in their order, then the row test.
-fn judge(
-    n: usize,
-    costs: &[i32],
-    mask: &[u8],
-    working: usize,
-    marks: usize,
-    columns: usize,
-    row_prices: usize,
-    column_prices: usize,
-) -> Verdict
-    ensures { λ r. ⌜ view-verdict r ≡ verdict (task n (now (costs .entry)) (now (mask .entry)) 0) 64 (lent working marks columns «row_prices» «column_prices») ⌝ }
-{
-    if n == 0 {
-        return Verdict::Refused(1, 0);
-    }
-    if 64 < n {
-        return Verdict::Refused(2, 0);
-    }
-    if !has_lengths(
-        n,
-        costs,
-        mask,
-        working,
-        marks,
-        columns,
-        row_prices,
-        column_prices,
-    ) {
-        return Verdict::Refused(3, 0);
-    }
-    let bad_mask = refusal::find_bad_mask(mask);
-    if bad_mask < mask.len() {
-        return Verdict::Refused(4, bad_mask);
-    }
-    let bad_cost = refusal::find_bad_cost(costs, mask);
-    if bad_cost < mask.len() {
-        return Verdict::Refused(5, bad_cost);
-    }
-    let dead = refusal::find_dead_row(n, mask);
-    if dead < n {
-        return Verdict::Dead(dead);
-    }
-    Verdict::Accepted
-}
-
 // Pairs n rows with n columns, each row with an allowed column of its own, at least total cost.
 pub fn solve_assignment(
     n: usize,
@@ -556,7 +463,8 @@ pub fn solve_assignment(
         (buffers (now (working .entry)) (now (marks .entry)) (now (columns .entry)) (now («row_prices» .entry)) (now («column_prices» .entry))) r
         (buffers (now (working .exit)) (now (marks .exit)) (now (columns .exit)) (now («row_prices» .exit)) (now («column_prices» .exit))) ⌝ }
 {
-    let verdict = judge(
+    let verdict = rules::judge_call(
+        64,
         n,
         costs,
         mask,

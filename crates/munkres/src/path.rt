@@ -3,7 +3,7 @@ ghost use mathlib.Core.Path.{_≡_};
 ghost use Prim.Native.Nat.{ℕ, _*_, _<_, _≤_};
 ghost use lib.ListN.{length, getD};
 ghost use Rattle.steps.specs.Steps.{path, flip};
-ghost use Rattle.steps.proofs.Path.{Ends};
+ghost use Rattle.steps.specs.Going.{Ends};
 ghost use Rattle.munkres.specs.Square.{Square};
 ghost use Rattle.munkres.specs.Path.{zipped};
 use crate::mark_matrix;

@@ -10,7 +10,7 @@ ghost use mir.Val.{SFits};
 ghost use Rattle.lines.specs.First.{any};
 ghost use Rattle.lines.specs.Square.{table, square, each-row};
 ghost use Rattle.lines.specs.Sets.{has};
-ghost use Rattle.lines.proofs.Signed.{Within};
+ghost use Rattle.lines.specs.Bounds.{Within};
 ghost use Rattle.steps.specs.Lent.{allows, cost-at};
 ghost use Rattle.steps.specs.Steps.{is-zero, row-price, excess, uncovered, follow, followed, lowered, raised};
 ghost use Rattle.munkres.specs.Square.{Square, Flags, Fit64};

@@ -9,7 +9,8 @@ use lib.Signed.{_≤ℤ_}
 use Rattle.lines.specs.Sum.{sumℤ}
 use mir.Syntax.{w64}
 use mir.Val.{SFits}
-use Rattle.lines.proofs.Signed.{signed, plus-parts, neg-parts, Within, within-fits}
+use Rattle.lines.specs.Bounds.{Within}
+use Rattle.lines.proofs.Signed.{signed, plus-parts, neg-parts, within-fits}
 use Rattle.lines.proofs.Sumsℤ.{le-sumℤ, sumℤ-within}
 use Rattle.assignment.specs.Problem.{column}
 use Rattle.assignment.specs.Prices.{PriceList}

@@ -18,12 +18,11 @@ use Rattle.lines.proofs.Signed.{signed, minus-parts}
 use Rattle.lines.proofs.Loops.{Passed}
 use Rattle.lines.proofs.Squares.{length-table, table-at}
 use Rattle.steps.specs.declared.Answer.{Answer}
-use Rattle.steps.specs.Lent.{Buffers}
+use Rattle.steps.specs.Lent.{Buffers, task}
 use Rattle.steps.specs.Refusal.{refused, verdict}
 use Rattle.steps.specs.Outcome.{judged, Outcome}
 use Rattle.steps.specs.Promise.{Promise}
 use Rattle.steps.proofs.Promised.{promised}
-use Rattle.munkres.specs.View.{task}
 use Rattle.munkres.proofs.CallLaws.{verdict-1, verdict-2, verdict-3, wrong-length}
 use Rattle.serbihun.specs.Bytes.{twos-complement, cost-of, decoded, readable}
 

@@ -4,7 +4,7 @@ ghost use Prim.Native.Nat.{_*_, _≤_};
 ghost use lib.ListN.{length, take};
 ghost use Rattle.lines.specs.Square.{table};
 ghost use Rattle.steps.specs.Promise.{Promise};
-ghost use Rattle.munkres.specs.View.{task, buffers};
+ghost use Rattle.steps.specs.Lent.{task, buffers};
 ghost use Rattle.serbihun.specs.Bytes.{little-endian, twos-complement, cost-of, decoded, readable};
 use steps::Answer;
 

@@ -13,7 +13,8 @@ use Rattle.lines.proofs.Tests.{T-true, T-false}
 use Rattle.lines.proofs.Signed.{signed, minus-parts}
 use Rattle.lines.proofs.Squares.{place-lt, place-of, each-at}
 use Rattle.steps.specs.Steps.{follow, lowered, raised, followed}
-use Rattle.steps.proofs.Turns.{Open, Lowest}
+use Rattle.steps.specs.Going.{Open}
+use Rattle.steps.proofs.Turns.{Lowest}
 
 -- ---- prices
 

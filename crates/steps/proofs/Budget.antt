@@ -10,7 +10,8 @@ use lib.IntN.{ℤ}
 use Rattle.lines.proofs.Tests.{T-false, eqb-no, eqb-yes}
 use Rattle.steps.specs.Steps.{Next, Step3, Step4, Step5, Step6, Paired, NoPairing, Unfinished, Run, Machine, machine, to, start, step3, covering, reaching, step5, augmenting, adjusting, lowest, step6, step-at, step, steps}
 use Rattle.steps.proofs.Turns.{Lowest, step3-ind, step4-ind, step6-ind}
-use Rattle.steps.proofs.Runs.{over, steps-stay, kept}
+use Rattle.steps.specs.Counts.{over}
+use Rattle.steps.proofs.Runs.{steps-stay, kept}
 
 abbrev is-unfinished : Next → Bool
 is-unfinished Step3 = false

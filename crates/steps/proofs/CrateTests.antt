@@ -13,8 +13,7 @@ use Rattle.steps.specs.Lent.{cost-at}
 use Rattle.steps.specs.Samples.{+_, _│_}
 use Rattle.steps.specs.Steps.{Step3, Step4, Step5, Step6, Paired, run-with, machine, is-zero, star-in-row, star-in-column, prime-in-row}
 use Rattle.steps.specs.Steps.{star-columns, star-count, row-price, excess, zero-at, free-zero, star-row, step2, start, step3, uncovered, covering}
-use Rattle.steps.specs.Steps.{reaching, zero-in-column, zero-column, step4, clear-primes, augmenting, path, flip, step5, adjusting, follow, lowered}
-use Rattle.steps.specs.Steps.{raised, lowest, followed, step6}
+use Rattle.steps.specs.Steps.{reaching, zero-in-column, zero-column, step4, clear-primes, augmenting, path, flip, step5, adjusting, follow, lowered, raised, lowest, followed, step6}
 
 -- every cell is allowed
 abbrev every : ℕ → ℕ → Bool

@@ -1,5 +1,5 @@
 -- What holds at the ends of a run: a pairing on zeros of a price list is least, and the uncovered lines where no cell is open are a block.
-use mathlib.Core.Path.{_≡_, refl, sym, ap, _∙_}
+use mathlib.Core.Path.{_≡_, refl, sym, _∙_}
 use mathlib.Core.Bool.{Bool, not}
 use mathlib.Core.List.{List}
 use Prim.Native.Nat.{ℕ, _+_, _<_}
@@ -8,7 +8,6 @@ use lib.Dec.{T, T-not, eqb→eq, ltb→lt}
 use lib.IntN.{ℤ, pos, _+ℤ_}
 use lib.ListN.{getD}
 use Rattle.lines.specs.Sum.{sumℤ}
-use Rattle.lines.specs.Count.{count}
 use Rattle.lines.specs.First.{any}
 use Rattle.lines.specs.Square.{cell, table}
 use Rattle.lines.specs.Sets.{has, with, all, rest}
@@ -21,12 +20,9 @@ use Rattle.assignment.specs.Problem.{AllowedPairing, NoneBelow, Block, column, 
 use Rattle.assignment.specs.Prices.{PriceList}
 use Rattle.assignment.proofs.Duality.{on-zeros-adds-up, on-zeros-least}
 use Rattle.steps.specs.Steps.{Machine, star-in-row, star-count}
-use Rattle.steps.proofs.Turns.{NoOpen}
-use Rattle.steps.proofs.Matching.{has-star}
+use Rattle.steps.specs.Going.{NoOpen, has-star, Starred, Search, Priced}
 use Rattle.steps.proofs.Marks.{find-star, find-count}
 use Rattle.steps.proofs.Phase as P
-use Rattle.steps.proofs.Search.{Starred, Search}
-use Rattle.steps.proofs.Priced.{Priced}
 
 module _ (n : ℕ) (ok : ℕ → ℕ → Bool) where
   -- ---- all is paired

@@ -8,9 +8,11 @@ use Prim.Native.Nat.{ℕ, zero, suc, _+_, _≤_, _<_}
 use native.Mathlib.Omega.{arith}
 use lib.Dec.{ltb, ltb→lt, nltb→le}
 use Rattle.lines.specs.Count.{bit, count}
-use Rattle.lines.proofs.Puts.{put, put-off, put-case}
+use Rattle.lines.specs.Put.{put}
+use Rattle.lines.proofs.Puts.{put-off, put-case}
 use Rattle.lines.proofs.Counts.{bit-lt}
-use Rattle.steps.proofs.Matching.{Apart, Matching, moved, none-apart, starless, has-star, count-moved}
+use Rattle.steps.specs.Going.{Apart, Matching, has-star}
+use Rattle.steps.proofs.Matching.{moved, none-apart, starless, count-moved}
 
 module _ (prime : ℕ → ℕ) where
   -- the rows on the on-path from row r: r, then the row whose star stands in the column of r's prime, and so on

@@ -1,5 +1,5 @@
 -- Fresh runs: what holds at every machine on the way from the start of an accepted call, and the ceilings of its counts.
-use mathlib.Core.Path.{ap, _∙_}
+use mathlib.Core.Path.{_∙_}
 use mathlib.Core.Bool.{Bool}
 use mathlib.Core.List.{List}
 use Prim.Native.Nat.{ℕ, suc, _+_, _-_, _*_, _/_, _≤_, _<_}
@@ -15,9 +15,10 @@ use Rattle.lines.proofs.Leasts.{least-is}
 use Rattle.lines.proofs.Squares.{square-at}
 use Rattle.steps.specs.Steps.{Run, Machine, star-count, row-price, excess, start, step, steps}
 use Rattle.steps.proofs.Runs.{kept}
-use Rattle.steps.proofs.Shape.{Shape, shape-start, shape-step}
-use Rattle.steps.proofs.Search.{Sound, sound-step}
-use Rattle.steps.proofs.Priced.{Priced, priced-start, priced-step, excess-allowed}
+use Rattle.steps.specs.Going.{Going}
+use Rattle.steps.proofs.Shape.{shape-start, shape-step}
+use Rattle.steps.proofs.Search.{sound-step}
+use Rattle.steps.proofs.Priced.{priced-start, priced-step, excess-allowed}
 use Rattle.steps.proofs.Pace.{Seen, Pace, Paced, paced-step}
 use Rattle.steps.proofs.Start.{one-star, sound-start}
 
@@ -28,23 +29,33 @@ adjusts-before = sum (λ x. x)
 abbrev pub primes-before : ℕ → ℕ
 primes-before = sum (λ x. x + 1)
 
+-- ---- a run from any state, and the start of a call
+
 module _ (n : ℕ) (ok : ℕ → ℕ → Bool) (cost : ℕ → ℕ → ℤ) where
+  pub going-step : (budget : ℕ) (m : Machine) → Going n ok cost m → Going n ok cost (step n ok budget m)
+  going-step budget m g = record {
+    shape = shape-step n ok budget m (g .shape);
+    sound = sound-step n ok budget m (g .shape) (g .sound);
+    priced = priced-step n ok cost budget m (g .shape) (g .priced);
+  }
+
+  pub going-start : Going n ok cost (start n ok cost)
+  going-start = record { shape = shape-start n ok cost; sound = sound-start n ok cost; priced = priced-start n ok cost }
+
+  -- ---- a fresh run
+
   abbrev pub first-stars : ℕ
   first-stars = star-count n (start n ok cost .marks)
 
   pub record Fresh (m : Machine) : Type 0 where
-    pub shape : Shape n m
-    pub sound : Sound n ok m
-    pub priced : Priced n ok cost m
+    pub going : Going n ok cost m
     pub paced : Paced n ok first-stars adjusts-before primes-before m
 
   pub fresh-step : (budget : ℕ) (m : Machine) → Fresh m → Fresh (step n ok budget m)
   unfolding sum
   fresh-step budget m f = record {
-    shape = shape-step n ok budget m (f .shape);
-    sound = sound-step n ok budget m (f .shape) (f .sound);
-    priced = priced-step n ok cost budget m (f .shape) (f .priced);
-    paced = paced-step n ok first-stars adjusts-before primes-before (λ s l h. omega arith) (λ s l h. omega arith) budget m (f .shape) (f .sound) (f .paced);
+    going = going-step budget m (f .going);
+    paced = paced-step n ok first-stars adjusts-before primes-before (λ s l h. omega arith) (λ s l h. omega arith) budget m (f .going .shape) (f .going .sound) (f .paced);
   }
 
   module _ (some : 0 < n) (rows : (i : ℕ) → i < n → T (any (ok i) n)) where
@@ -65,9 +76,7 @@ module _ (n : ℕ) (ok : ℕ → ℕ → Bool) (cost : ℕ → ℕ → ℤ) wher
     pub fresh-start : Fresh (start n ok cost)
     unfolding start
     fresh-start = record {
-      shape = shape-start n ok cost;
-      sound = sound-start n ok cost;
-      priced = priced-start n ok cost;
+      going = going-start;
       paced = record {
         at-next = record {
           since = omega arith;

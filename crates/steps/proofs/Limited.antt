@@ -15,55 +15,23 @@ use Rattle.lines.specs.First.{any, least}
 use Rattle.lines.specs.Square.{cell}
 use Rattle.lines.specs.Sets.{has, with, without}
 use Rattle.lines.proofs.Tests.{T-or}
-use Rattle.lines.proofs.Puts.{put}
+use Rattle.lines.specs.Put.{put}
 use Rattle.lines.proofs.Counts.{count-none}
 use Rattle.lines.proofs.Firsts.{any-is}
 use Rattle.lines.proofs.Leasts.{least-is}
-use Rattle.lines.proofs.Signed.{Within, within-zero}
+use Rattle.lines.specs.Bounds.{Within}
+use Rattle.lines.proofs.Signed.{within-zero}
 use Rattle.lines.proofs.Squares.{place-in, place-back, table-at}
 use Rattle.lines.proofs.Sets.{has-empty, has-those, with-put, without-put}
+use Rattle.steps.specs.Bounds.{Limits-on, Between, During, Limited-at, Limited, Bounded, limit}
 use Rattle.steps.specs.Steps.{Next, Step3, Step4, Step5, Step6, Paired, NoPairing, Unfinished, Machine, machine, star-in-row, star-in-column, star-columns, star-count, row-price, start, covering, reaching, path, flip, clear-primes, step5, augmenting, adjusting, lowered, raised, step-at, step}
-use Rattle.steps.proofs.Turns.{OpenZero, Lowest, step3-ind, step4-ind, step6-ind}
-use Rattle.steps.proofs.Matching.{has-star}
-use Rattle.steps.proofs.Marks.{Shows, find-star, find-row, find-count}
-use Rattle.steps.proofs.Phase.{Phase, covers}
-use Rattle.steps.proofs.Shape.{Shape}
+use Rattle.steps.specs.Going.{OpenZero, has-star, Shows, Phase, Shape, Priced, Zero, Starred, Search, Ready, Sound, Sound-at}
+use Rattle.steps.proofs.Turns.{Lowest, step3-ind, step4-ind, step6-ind}
+use Rattle.steps.proofs.Marks.{find-star, find-row, find-count}
+use Rattle.steps.proofs.Phase.{covers}
 use Rattle.steps.proofs.Adjusted.{lowered-at, raised-at}
-use Rattle.steps.proofs.Priced.{Priced}
-use Rattle.steps.proofs.Search.{Zero, Starred, Search, Ready, Sound, Sound-at, shown, row′, flipped, augmented, one-star-more}
-use Rattle.steps.proofs.Limits.{Limits, limit, tight, limits-start, limits-primed, limits-augmented, limits-adjusted, limits-same, limits-column, limits-row, limits-work}
-
-module _ (n C A B : ℕ) where
-  -- with the stars of these marks, these covered rows and columns, and these prices
-  abbrev pub Limits-on : List ℕ → (ℕ → Bool) → (ℕ → Bool) → List ℤ → List ℤ → Type 0
-  Limits-on marks r c row-prices column-prices =
-      Limits n C A B (star-in-row n marks) (star-in-column n marks) r c (λ i. getD row-prices i (pos 0)) (λ j. getD column-prices j (pos 0))
-
-  -- between phases, with the covers that step 3 makes, and in a phase
-  abbrev pub Between : Machine → Type 0
-  Between m = Limits-on (m .marks) (λ i. false) (λ j. ltb (star-in-column n (m .marks) j) n) (m .row-prices) (m .column-prices)
-
-  abbrev pub During : Machine → Type 0
-  During m = Limits-on (m .marks) (has (m .run .rows)) (has (m .run .columns)) (m .row-prices) (m .column-prices)
-
-  -- by what is next
-  abbrev pub Limited-at : Next → Machine → Type 0
-  Limited-at Step3 m = Between m
-  Limited-at Step4 m = During m
-  Limited-at (Step5 i j) m = During m
-  Limited-at Step6 m = During m
-  Limited-at Paired m = Between m
-  Limited-at NoPairing m = During m
-  Limited-at Unfinished m = During m
-
-  pub record Limited (m : Machine) : Type 0 where
-    pub at-next : Limited-at (m .run .next) m
-
--- every price and every working value is within L
-pub record InLimits (n L : ℕ) (m : Machine) : Type 0 where
-  pub row-prices : (i : ℕ) → i < n → Within L (getD (m .row-prices) i (pos 0))
-  pub column-prices : (j : ℕ) → j < n → Within L (getD (m .column-prices) j (pos 0))
-  pub working : (q : ℕ) → q < n * n → Within L (getD (m .working) q (pos 0))
+use Rattle.steps.proofs.Search.{shown, row′, flipped, augmented, one-star-more}
+use Rattle.steps.proofs.Limits.{tight, limits-start, limits-primed, limits-augmented, limits-adjusted, limits-same, limits-column, limits-row, limits-work}
 
 -- where a search finds a star, it is the row's
 found : {n : ℕ} {star prime : ℕ → ℕ} {marks : List ℕ} → Shows n star prime marks → (i : ℕ) → star-in-row n marks i < n → star-in-row n marks i ≡ star i
@@ -230,11 +198,11 @@ module _ (n : ℕ) (ok : ℕ → ℕ → Bool) (cost : ℕ → ℕ → ℤ) {C :
   -- while a row is uncovered
   bounded : {A B : ℕ} {r c : ℕ → Bool} {star prime : ℕ → ℕ} {m : Machine} → Priced n ok cost m
       → Limits-on n C A B (m .marks) r c (m .row-prices) (m .column-prices) → count r n < n
-      → Shows n star prime (m .marks) → ((i : ℕ) → i < n → star i < n → Zero n ok (m .working) i (star i)) → InLimits n (limit n C A B) m
+      → Shows n star prime (m .marks) → ((i : ℕ) → i < n → star i < n → Zero n ok (m .working) i (star i)) → Bounded n (limit n C A B) m
   bounded {A} {B} {m = m} priced l left shows zeros = record {
-    row-prices = λ i hi. limits-row l left i hi (star-within priced shows zeros i hi);
-    column-prices = limits-column l left;
-    working = λ q hq. let p = place-in n q hq in rw (← place-back n q) (work (q / n) (q % n) (p .0) (p .1));
+    rows = λ i hi. limits-row l left i hi (star-within priced shows zeros i hi);
+    columns = limits-column l left;
+    cells = λ q hq. let p = place-in n q hq in rw (← place-back n q) (work (q / n) (q % n) (p .0) (p .1));
   }
     where
       work : (i j : ℕ) → i < n → j < n → Within (limit n C A B) (cell (pos 0) n (m .working) i j)
@@ -244,19 +212,19 @@ module _ (n : ℕ) (ok : ℕ → ℕ → Bool) (cost : ℕ → ℕ → ℤ) {C :
           (λ t. rw (priced .none i j hi hj t) (within-zero (limit n C A B)))
           (T-or (ok i j))
 
-  pub limits : {A B : ℕ} (m : Machine) → 0 < n → Sound n ok m → Priced n ok cost m → Limited n C A B m → InLimits n (limit n C A B) m
+  pub limits : {A B : ℕ} (m : Machine) → 0 < n → Sound n ok m → Priced n ok cost m → Limited n C A B m → Bounded n (limit n C A B) m
   limits {A} {B} m some sound priced limited = go (m .run .next) (sound .at-next) (limited .at-next)
     where
       -- by the stars alone, and in a phase
-      starred : Starred n ok (m .working) (m .marks) → Between n C A B m → InLimits n (limit n C A B) m
+      starred : Starred n ok (m .working) (m .marks) → Between n C A B m → Bounded n (limit n C A B) m
       starred s l = bounded priced l (omega (arith, count-none n)) s.shows s.zeros
 
       phased : {star row prime prime′ time : ℕ → ℕ} {r c : ℕ → Bool} → Phase n (Zero n ok (m .working)) star row prime time r c
           → count (has-star n star) n < n → Shows n star prime′ (m .marks) → Limits-on n C A B (m .marks) r c (m .row-prices) (m .column-prices)
-          → InLimits n (limit n C A B) m
+          → Bounded n (limit n C A B) m
       phased phase missing shows l = bounded priced l (omega (arith, covers phase)) shows (phase .stars)
 
-      go : (x : Next) → Sound-at n ok x m → Limited-at n C A B x m → InLimits n (limit n C A B) m
+      go : (x : Next) → Sound-at n ok x m → Limited-at n C A B x m → Bounded n (limit n C A B) m
       go Step3 h l = starred (h .0) l
       go Step4 s l = phased s.phase s.missing s.shows l
       go (Step5 i j) s l = phased s.phase s.missing s.shows l

@@ -12,9 +12,12 @@ use lib.IntN.{ℤ, pos, negℤ, _+ℤ_, _-ℤ_}
 use lib.Signed.{_≤ℤ_}
 use Rattle.lines.specs.Count.{count}
 use Rattle.lines.proofs.Tests.{cond-ind, T-true, T-false}
-use Rattle.lines.proofs.Puts.{put, put-case}
+use Rattle.lines.specs.Put.{put}
+use Rattle.lines.proofs.Puts.{put-case}
 use Rattle.lines.proofs.Counts.{count-ext, count-put, count-le, bit-yes, bit-no}
-use Rattle.lines.proofs.Signed.{P, signed, plus-parts, minus-parts, neg-parts, whole, Within}
+use Rattle.lines.specs.Bounds.{Within}
+use Rattle.lines.proofs.Signed.{P, signed, plus-parts, minus-parts, neg-parts, whole}
+use Rattle.steps.specs.Bounds.{stars, Limits, limit}
 
 -- a cell of working value 0: row price and column price add up to its cost
 pub tight : {C : ℕ} {k w : ℤ} (x y : ℤ) → Within C k → k ≡ x +ℤ y +ℤ w → w ≡ pos 0 → Within C (x +ℤ y)
@@ -22,36 +25,6 @@ tight {C} {k} {w} x y b e z = record {
   above = omega (signed, b .above, plus-parts (x +ℤ y) w);
   below = omega (signed, b .below, plus-parts (x +ℤ y) w);
 }
-
--- how many rows below n have a star, by the columns of the stars
-abbrev pub stars : ℕ → (ℕ → ℕ) → ℕ
-stars n star = count (λ i. ltb (star i) n) n
-
--- Costs are within C; at the start of the run row prices are within A and column prices within B.
--- `star i` is the column of row i's star and `row j` the row of column j's star, and a number not below n says that there is none.
--- r and c are the covered rows and columns, rp and cp the row and column prices.
-pub record Limits (n C A B : ℕ) (star row : ℕ → ℕ) (r c : ℕ → Bool) (rp cp : ℕ → ℤ) : Type 0 where
-  -- the sum of all minima of step 6 so far, and of those before this phase
-  pub sunk : ℕ
-  pub before : ℕ
-  pub low : (j : ℕ) → j < n → negℤ (pos B) ≤ℤ cp j
-  pub high : (j : ℕ) → j < n → cp j ≤ℤ pos (B + sunk)
-  -- a column without a star has risen each time
-  pub bare : (j : ℕ) → j < n → n ≤ row j → pos sunk ≤ℤ (cp j +ℤ pos B)
-  -- a row without a star never fell
-  pub flat : (i : ℕ) → i < n → n ≤ star i → Within A (rp i)
-  -- each row that is covered lets an uncovered column lie 2 C further back
-  pub near : (j : ℕ) → j < n → T (not (c j)) → pos sunk ≤ℤ (cp j +ℤ pos (B + 2 * C * count r n))
-  -- a covered column has not risen in this phase
-  pub still : (j : ℕ) → j < n → T (c j) → cp j ≤ℤ pos (B + before)
-  -- the last minimum lay in a row with a star, or in one without
-  pub rise : sunk ≤ max (before + 2 * B + 2 * C) (C + A + B) + 2 * C * count r n
-  -- no phase has ended yet, or the last prime of the one before lay in a row without a star
-  pub past : before + C ≤ max C (A + B + 2 * C * stars n star)
-
--- what bounds all prices and working values of a run
-abbrev pub limit : ℕ → ℕ → ℕ → ℕ → ℕ
-limit n C A B = A + 5 * B + C + 4 * C * n
 
 -- a run that starts with the row minima and no column prices
 pub limit-fresh : (n C : ℕ) → limit n C C 0 ≡ 2 * C + 4 * C * n

@@ -7,20 +7,17 @@ use Prim.Native.Nat.{ℕ, _+_, _*_, _≤_, _<_, min}
 use native.Mathlib.Decide.{ℕ-discrete}
 use native.Mathlib.Omega.{arith}
 use lib.Dec.{eqb, eqb→eq, ltb}
-use lib.ListN.{length, set, length-set}
+use lib.ListN.{set, length-set}
 use Rattle.lines.specs.Count.{count}
 use Rattle.lines.specs.Square.{cell, square}
 use Rattle.lines.proofs.Tests.{eqb-yes}
-use Rattle.lines.proofs.Puts.{put, put-at, put-off, put2, put2-case}
+use Rattle.lines.specs.Put.{put}
+use Rattle.lines.proofs.Puts.{put-at, put-off, put2-case}
 use Rattle.lines.proofs.Counts.{count-ext}
 use Rattle.lines.proofs.Firsts.{first-only, ltb-min}
 use Rattle.lines.proofs.Squares.{cell-set, length-each, each-cell, length-square, square-all}
+use Rattle.steps.specs.Going.{mark, Shows, Matching, has-star}
 use Rattle.steps.specs.Steps.{star-in-row, star-in-column, prime-in-row, star-count, clear-primes}
-use Rattle.steps.proofs.Matching.{Matching, has-star}
-
--- 1 at a row's star, 2 at its prime, 0 elsewhere
-unfoldable pub mark : (ℕ → ℕ) → (ℕ → ℕ) → ℕ → ℕ → ℕ
-mark star prime i j = ite (ℕ-discrete (star i) j) 1 (ite (ℕ-discrete (prime i) j) 2 0)
 
 module _ (star prime : ℕ → ℕ) (i j : ℕ) where
   pub mark-star : star i ≡ j → mark star prime i j ≡ 1
@@ -54,11 +51,6 @@ shift s v x y a b d =
     dite (ℕ-discrete a v)
     (λ e. inr (rw (put-at s v x a e, put-at s v y a e) (d e)))
     (λ ne. inl (put-off s v x a ne ∙ sym (put-off s v y a ne)))
-
--- the marks show the stars and the primes
-pub record Shows (n : ℕ) (star prime : ℕ → ℕ) (marks : List ℕ) : Type 0 where
-  pub size : length marks ≡ n * n
-  pub marked : (a b : ℕ) → b < n → cell 0 n marks a b ≡ mark star prime a b
 
 pub show-none : (n : ℕ) → Shows n (λ i. n) (λ i. n) (square (λ i j. 0) n)
 show-none n = record { size = length-square (λ i j. 0) n; marked = λ a b hb. square-all 0 n a b ∙ sym (mark-none (λ i. n) (λ i. n) a b (omega arith) (omega arith)) }

@@ -2,23 +2,15 @@
 -- j's star, and a number not below n says that there is none.
 use mathlib.Core.Path.{_≡_, refl, ap}
 use mathlib.Core.Logic.{_≢_, dite}
-use mathlib.Core.Bool.{Bool}
 use Prim.Native.Nat.{ℕ, _+_, _≤_, _<_}
 use native.Mathlib.Decide.{ℕ-discrete}
 use native.Mathlib.Omega.{arith}
 use lib.Dec.{ltb}
 use Rattle.lines.specs.Count.{bit, count}
-use Rattle.lines.proofs.Puts.{put, put-at, put-off, put-map}
+use Rattle.lines.specs.Put.{put}
+use Rattle.lines.proofs.Puts.{put-at, put-off, put-map}
 use Rattle.lines.proofs.Counts.{count-ext, count-put, bit-lt}
-
--- At most one star in each row and each column, row r set apart: it may have a `star`, but no column has it as its `row`. An r that is not below n sets no row
--- apart, and then these are the stars of a plain partial matching.
-pub record Apart (n : ℕ) (star row : ℕ → ℕ) (r : ℕ) : Type 0 where
-  pub there : (i : ℕ) → i < n → i ≢ r → star i < n → row (star i) ≡ i
-  pub back : (j : ℕ) → j < n → row j < n → (row j ≢ r) × (star (row j) ≡ j)
-
-abbrev pub Matching : ℕ → (ℕ → ℕ) → (ℕ → ℕ) → Type 0
-Matching n star row = Apart n star row n
+use Rattle.steps.specs.Going.{Apart, Matching, has-star}
 
 -- Row r takes column c, and the row whose star stood there, if any, is set apart in its place.
 pub moved : (n : ℕ) (star row : ℕ → ℕ) (r c : ℕ) → r < n → c < n → Apart n star row r → Apart n (put star r c) (put row c r) (row c)
@@ -49,10 +41,6 @@ starless n star row r h w = record {
   there = λ i hi ne. w .there i hi (omega arith);
   back = λ j hj l. (λ e. omega (arith, w .back j hj l .1, ap star e), w .back j hj l .1);
 }
-
--- which rows have a star
-abbrev pub has-star : ℕ → (ℕ → ℕ) → ℕ → Bool
-has-star n star i = ltb (star i) n
 
 pub count-moved : (n : ℕ) (star : ℕ → ℕ) (r c : ℕ) → r < n → c < n → count (has-star n (put star r c)) n + bit (has-star n star r) ≡ count (has-star n star) n + 1
 count-moved n star r c hr hc =

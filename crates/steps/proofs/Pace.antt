@@ -1,23 +1,22 @@
 -- The invariant *pace*: how many adjustments and primes there can be. One law of one phase: with s stars it makes at most s adjustments and s + 1 primes.
-use mathlib.Core.Path.{_≡_, refl, ap, _∙_}
+use mathlib.Core.Path.{_≡_, refl, _∙_}
 use mathlib.Core.Logic.{_≢_, ⊎-elim}
 use mathlib.Core.Bool.{Bool, not}
 use mathlib.Core.List.{List}
 use Prim.Native.Nat.{ℕ, suc, _+_, _*_, _≤_, _<_}
 use native.Mathlib.Omega.{arith}
-use lib.Dec.{T}
 use lib.IntN.{ℤ}
 use lib.ListN.{length}
 use Rattle.lines.specs.Count.{count}
 use Rattle.lines.specs.Sets.{has}
 use Rattle.lines.proofs.Tests.{T-or}
 use Rattle.steps.specs.Steps.{Next, Step3, Step4, Step5, Step6, Paired, NoPairing, Unfinished, Run, Machine, machine, star-count, covering, reaching, step5, augmenting, adjusting, followed, step-at, step}
-use Rattle.steps.proofs.Turns.{Open, OpenZero, NoZero, step3-ind, step4-ind, step6-ind}
+use Rattle.steps.specs.Going.{OpenZero, NoZero, Shape, Zero, Search, Ready, Sound, Sound-at}
+use Rattle.steps.proofs.Turns.{step3-ind, step4-ind, step6-ind}
 use Rattle.steps.proofs.Marks.{find-count}
 use Rattle.steps.proofs.Phase.{covers, room}
 use Rattle.steps.proofs.Adjusted.{column-stays, lowest-zero}
-use Rattle.steps.proofs.Shape.{Shape}
-use Rattle.steps.proofs.Search.{Zero, Search, Ready, Sound, Sound-at, begun, covered, same-stars, one-row-more, one-star-more, adjusted}
+use Rattle.steps.proofs.Search.{begun, covered, same-stars, one-row-more, one-star-more, adjusted}
 
 -- fact Z: every row has an allowed zero
 abbrev pub Seen : (n : ℕ) → (ℕ → ℕ → Bool) → List ℤ → Type 0

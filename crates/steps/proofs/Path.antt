@@ -10,21 +10,16 @@ use lib.Dec.{ltb, ltb→lt, nltb→le, eqb}
 use lib.ListN.{length, set}
 use Rattle.lines.specs.Square.{cell}
 use Rattle.lines.proofs.Tests.{cond-ind}
-use Rattle.lines.proofs.Puts.{put, put-at}
+use Rattle.lines.specs.Put.{put}
+use Rattle.lines.proofs.Puts.{put-at}
+use Rattle.steps.specs.Going.{Ends, Matching, Shows}
 use Rattle.steps.specs.Steps.{star-in-column, prime-in-row, path, flip}
-use Rattle.steps.proofs.Matching.{Matching}
 use Rattle.steps.proofs.Flip.{on-path, starred, Walk, walk-on, earlier, star-next}
-use Rattle.steps.proofs.Marks.{Shows, mark-star, mark-prime, show-starred, show-unstarred, find-row, find-prime}
+use Rattle.steps.proofs.Marks.{mark-star, mark-prime, show-starred, show-unstarred, find-row, find-prime}
 
 -- ---- the path by what the searches find
 
 module _ (n : ℕ) (marks : List ℕ) where
-  -- the path from (i, j) stays in the square, and ends within k rows
-  abbrev pub Ends : ℕ → ℕ → ℕ → Type 0
-  Ends zero i j = ⊥
-  Ends (suc k) i j =
-      (i < n) × (j < n) × (star-in-column n marks j < n → Ends k (star-in-column n marks j) (prime-in-row n marks (star-in-column n marks j)))
-
   module _ (k i j : ℕ) where
     -- its column has no star, or has one
     pub path-last : n ≤ star-in-column n marks j → path n marks (suc k) i j ≡ (i, j) ∷ []

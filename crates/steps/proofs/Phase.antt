@@ -8,25 +8,10 @@ use native.Mathlib.Omega.{arith}
 use lib.Dec.{T, T-not, not-T, ltb→lt, lt→ltb}
 use Rattle.lines.specs.Count.{bit, count}
 use Rattle.lines.proofs.Tests.{T-or, both, T-yes}
-use Rattle.lines.proofs.Puts.{put, put-at, put-off, put-case}
+use Rattle.lines.specs.Put.{put}
+use Rattle.lines.proofs.Puts.{put-at, put-off, put-case}
 use Rattle.lines.proofs.Counts.{count-ext, count-put, count-inj, count-minus, count-pos, count-miss, uncovered, bit-no}
-use Rattle.steps.proofs.Matching.{Matching, has-star}
-
--- `Zero i j`: an allowed cell with working value 0. Row i is covered where `r i`, column j where `c j`. `time i` is the number of rows that were covered when
--- row i's prime was made.
-pub record Phase (n : ℕ) (Zero : ℕ → ℕ → Type 0) (star row prime time : ℕ → ℕ) (r c : ℕ → Bool) : Type 0 where
-  pub matching : Matching n star row
-  pub stars : (i : ℕ) → i < n → star i < n → Zero i (star i)
-  pub primes : (i : ℕ) → i < n → prime i < n → Zero i (prime i)
-  -- the covered rows are those with a prime, and they have a star
-  pub covered : (i : ℕ) → i < n → T (r i) → (star i < n) × (prime i < n)
-  pub primed : (i : ℕ) → i < n → prime i < n → T (r i)
-  -- the covered columns are those whose star is in an uncovered row
-  pub crossed : (j : ℕ) → j < n → T (c j) → (row j < n) × T (not (r (row j)))
-  pub crosses : (j : ℕ) → j < n → row j < n → T (not (r (row j))) → T (c j)
-  -- the star in a prime's column is in a row that was primed earlier
-  pub chain : (i : ℕ) → i < n → prime i < n → row (prime i) < n → (prime (row (prime i)) < n) × (time (row (prime i)) < time i)
-  pub times : (i : ℕ) → i < n → prime i < n → time i < count r n
+use Rattle.steps.specs.Going.{Phase, Matching, has-star}
 
 -- step 3: nothing primed, no row covered, and the columns that have a star
 pub phase-start : (n : ℕ) (Zero : ℕ → ℕ → Type 0) (star row : ℕ → ℕ) (r c : ℕ → Bool) → ((i : ℕ) → i < n → r i ≡ false) → ((j : ℕ) → j < n → c j ≡ has-star n row j)

@@ -13,16 +13,10 @@ use Rattle.lines.proofs.Tests.{T-true, T-false}
 use Rattle.lines.proofs.Leasts.{least-is}
 use Rattle.lines.proofs.Signed.{signed, plus-parts, minus-parts}
 use Rattle.lines.proofs.Squares.{table-at, square-at}
+use Rattle.steps.specs.Going.{Priced, Shape}
 use Rattle.steps.specs.Steps.{Next, Step3, Step4, Step5, Step6, Paired, NoPairing, Unfinished, Run, Machine, machine, row-price, excess, start, follow, lowered, raised, followed, step-at, step}
 use Rattle.steps.proofs.Turns.{Lowest, step6-ind}
-use Rattle.steps.proofs.Shape.{Shape}
 use Rattle.steps.proofs.Adjusted.{followed-at, lowered-at, raised-at, forbidden-stays}
-
-pub record Priced (n : ℕ) (ok : ℕ → ℕ → Bool) (cost : ℕ → ℕ → ℤ) (m : Machine) : Type 0 where
-  pub equation : (i j : ℕ) → i < n → j < n → T (ok i j)
-      → cost i j ≡ getD (m .row-prices) i (pos 0) +ℤ getD (m .column-prices) j (pos 0) +ℤ cell (pos 0) n (m .working) i j
-  pub whole : (i j : ℕ) → i < n → j < n → T (ok i j) → pos 0 ≤ℤ cell (pos 0) n (m .working) i j
-  pub none : (i j : ℕ) → i < n → j < n → T (not (ok i j)) → cell (pos 0) n (m .working) i j ≡ pos 0
 
 -- ---- an adjustment at one cell, by whether its row and its column are covered
 

@@ -3,13 +3,8 @@ use mathlib.Core.Path.{_≡_, refl, sym, ap, _∙_}
 use mathlib.Core.Bool.{Bool, true, false, true≢false}
 use Prim.Native.Nat.{ℕ, zero, suc, _+_, _≤_, _<_}
 use native.Mathlib.Omega.{arith}
-use lib.Dec.{eqb}
-use Rattle.steps.specs.Counts.{which}
+use Rattle.steps.specs.Counts.{over}
 use Rattle.steps.specs.Steps.{Next, Step3, Step4, Step5, Step6, Paired, NoPairing, Unfinished, Machine, step-at, step, steps}
-
--- the three ends
-abbrev pub over : Next → Bool
-over x = eqb (which x) 0
 
 module _ (n : ℕ) (ok : ℕ → ℕ → Bool) (budget : ℕ) where
   -- a machine that is over does not change

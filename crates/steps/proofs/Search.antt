@@ -5,79 +5,31 @@ use mathlib.Core.Bool.{Bool, true, false}
 use mathlib.Core.List.{List}
 use Prim.Native.Nat.{ℕ, suc, _+_, _*_, _≤_, _<_}
 use native.Mathlib.Omega.{arith}
-use lib.Dec.{T, ltb}
-use lib.IntN.{ℤ, pos}
+use lib.Dec.{ltb}
+use lib.IntN.{ℤ}
 use lib.ListN.{length, set}
 use Rattle.lines.specs.Count.{count}
-use Rattle.lines.specs.Square.{cell}
 use Rattle.lines.specs.Sets.{has, with, without}
-use Rattle.lines.proofs.Puts.{put, put-at}
+use Rattle.lines.specs.Put.{put}
+use Rattle.lines.proofs.Puts.{put-at}
 use Rattle.lines.proofs.Counts.{count-ext, count-le, bit-ge}
 use Rattle.lines.proofs.Firsts.{ltb-min}
 use Rattle.lines.proofs.Sets.{has-empty, has-those, with-put, without-put}
-use Rattle.steps.specs.Steps.{Next, Step3, Step4, Step5, Step6, Paired, NoPairing, Unfinished, Machine, machine, star-in-row, star-columns, star-count, step3, covering, reaching, step4, path, flip, clear-primes, step5, augmenting, adjusting, followed, step6, step-at, step}
-use Rattle.steps.proofs.Turns.{Open, OpenZero, NoZero, NoOpen, step3-ind, step4-ind, step6-ind}
-use Rattle.steps.proofs.Matching.{Matching, has-star}
+use Rattle.steps.specs.Going.{Zero, Starred, Search, Ready, Sound-at, Sound, OpenZero, has-star, Shows, Shape}
+use Rattle.steps.specs.Steps.{Next, Step3, Step4, Step5, Step6, Paired, NoPairing, Unfinished, Machine, machine, star-in-row, star-columns, star-count, covering, reaching, path, flip, clear-primes, step5, augmenting, adjusting, followed, step-at, step}
+use Rattle.steps.proofs.Turns.{step3-ind, step4-ind, step6-ind}
 use Rattle.steps.proofs.Flip as F
-use Rattle.steps.proofs.Marks.{Shows, show-primed, show-bare, show-cleared, find-star, find-row, find-count}
+use Rattle.steps.proofs.Marks.{show-primed, show-bare, show-cleared, find-star, find-row, find-count}
 use Rattle.steps.proofs.Path.{show-flip}
-use Rattle.steps.proofs.Phase.{Phase, phase-start, phase-ext, phase-primed, phase-adjusted, chain′, primes′, one-more, new, open-off}
+use Rattle.steps.proofs.Phase.{phase-start, phase-ext, phase-primed, phase-adjusted, chain′, primes′, one-more, new, open-off}
 use Rattle.steps.proofs.Adjusted.{row-stays, column-stays}
-use Rattle.steps.proofs.Shape.{Shape}
 
 module _ (n : ℕ) (ok : ℕ → ℕ → Bool) where
-  -- an allowed cell with working value 0
-  abbrev pub Zero : List ℤ → ℕ → ℕ → Type 0
-  Zero working i j = T (ok i j) × (cell (pos 0) n working i j ≡ pos 0)
-
-  -- at step 3, and when all is paired: the marks are stars, on zeros, one at most in each row and column
-  pub record Starred (working : List ℤ) (marks : List ℕ) : Type 0 where
-    pub star : ℕ → ℕ
-    pub row : ℕ → ℕ
-    pub shows : Shows n star (λ i. n) marks
-    pub matching : Matching n star row
-    pub zeros : (i : ℕ) → i < n → star i < n → Zero working i (star i)
-
-  -- at steps 4 and 6: the phase, while a star is missing
-  pub record Search (working : List ℤ) (marks : List ℕ) (rows columns : ℕ) : Type 0 where
-    pub star : ℕ → ℕ
-    pub row : ℕ → ℕ
-    pub prime : ℕ → ℕ
-    pub time : ℕ → ℕ
-    pub shows : Shows n star prime marks
-    pub phase : Phase n (Zero working) star row prime time (has rows) (has columns)
-    pub missing : count (has-star n star) n < n
-
-  -- at step 5: the last prime is in a row i without a star
-  pub record Ready (working : List ℤ) (marks : List ℕ) (rows columns i j : ℕ) : Type 0 where
-    pub star : ℕ → ℕ
-    pub row : ℕ → ℕ
-    pub prime : ℕ → ℕ
-    pub time : ℕ → ℕ
-    pub shows : Shows n star (put prime i j) marks
-    pub phase : Phase n (Zero working) star row prime time (has rows) (has columns)
-    pub missing : count (has-star n star) n < n
-    pub last : OpenZero n ok working rows columns i j
-    pub bare : n ≤ star i
-
-  -- by what is next
-  abbrev pub Sound-at : Next → Machine → Type 0
-  Sound-at Step3 m = Starred (m .working) (m .marks) × (m .run .rows ≡ 0)
-  Sound-at Step4 m = Search (m .working) (m .marks) (m .run .rows) (m .run .columns)
-  Sound-at (Step5 i j) m = Ready (m .working) (m .marks) (m .run .rows) (m .run .columns) i j
-  Sound-at Step6 m = Search (m .working) (m .marks) (m .run .rows) (m .run .columns) × NoZero n ok (m .working) (m .run .rows) (m .run .columns)
-  Sound-at Paired m = Starred (m .working) (m .marks) × (star-count n (m .marks) ≡ n)
-  Sound-at NoPairing m = Search (m .working) (m .marks) (m .run .rows) (m .run .columns) × NoOpen n ok (m .run .rows) (m .run .columns)
-  Sound-at Unfinished m = Search (m .working) (m .marks) (m .run .rows) (m .run .columns) × NoZero n ok (m .working) (m .run .rows) (m .run .columns)
-
-  pub record Sound (m : Machine) : Type 0 where
-    pub at-next : Sound-at (m .run .next) m
-
   -- ---- each step
 
   module _ {working : List ℤ} {marks : List ℕ} {rows columns : ℕ} where
     -- step 3: a phase begins
-    pub begun : (s : Starred working marks) → rows ≡ 0 → columns ≡ star-columns n marks → star-count n marks ≢ n → Search working marks rows columns
+    pub begun : (s : Starred n ok working marks) → rows ≡ 0 → columns ≡ star-columns n marks → star-count n marks ≢ n → Search n ok working marks rows columns
     unfolding star-columns
     begun s e0 e1 part = record {
       star = s .star;
@@ -86,7 +38,7 @@ module _ (n : ℕ) (ok : ℕ → ℕ → Bool) where
       time = λ i. 0;
       shows = s .shows;
       phase =
-          phase-start n (Zero working) s.star s.row (has rows) (has columns)
+          phase-start n (Zero n ok working) s.star s.row (has rows) (has columns)
           (λ i hi. rw e0 (has-empty i))
           (λ j hj. rw e1 (has-those _ n j hj ∙ ap (λ x. ltb x n) (find-row s.shows s.row s.matching j hj) ∙ ltb-min (s .row j) n))
           s.matching s.zeros;
@@ -94,7 +46,7 @@ module _ (n : ℕ) (ok : ℕ → ℕ → Bool) where
     }
 
     -- step 4: a zero at (i, j) is primed
-    module _ (s : Search working marks rows columns) (i j : ℕ) (z : OpenZero n ok working rows columns i j) where
+    module _ (s : Search n ok working marks rows columns) (i j : ℕ) (z : OpenZero n ok working rows columns i j) where
       abbrev pub marked : List ℕ
       marked = set marks (i * n + j) 2
 
@@ -105,7 +57,7 @@ module _ (n : ℕ) (ok : ℕ → ℕ → Bool) where
           (open-off s.phase i j (z .row-below) (z .column-below) (z .is-open .row) (z .is-open .column)) s.shows
 
       -- its row has a star: the row is covered, and the star's column uncovered
-      pub covered : star-in-row n marked i < n → Search working marked (with rows i) (without columns (star-in-row n marked i))
+      pub covered : star-in-row n marked i < n → Search n ok working marked (with rows i) (without columns (star-in-row n marked i))
       covered h =
           let e : star-in-row n marked i ≡ s .star i = find-star shown i ∙ (omega (arith, find-star shown i)) in
           record {
@@ -123,7 +75,7 @@ module _ (n : ℕ) (ok : ℕ → ℕ → Bool) where
           }
 
       -- it has none: step 5 is next
-      pub ready : n ≤ star-in-row n marked i → Ready working marked rows columns i j
+      pub ready : n ≤ star-in-row n marked i → Ready n ok working marked rows columns i j
       ready h = record {
         star = s .star;
         row = s .row;
@@ -146,7 +98,7 @@ module _ (n : ℕ) (ok : ℕ → ℕ → Bool) where
           ∙ one-more s.phase i j (z .row-below) (z .column-below) (z .is-open .row) (z .is-open .column) (z .is-open .allowed, z .zero)
 
     -- step 5: the path is flipped
-    module _ {i j : ℕ} (s : Ready working marks rows columns i j) where
+    module _ {i j : ℕ} (s : Ready n ok working marks rows columns i j) where
       abbrev pub prime′ : ℕ → ℕ
       prime′ = put s.prime i j
 
@@ -175,13 +127,13 @@ module _ (n : ℕ) (ok : ℕ → ℕ → Bool) where
       abbrev pub row′ : ℕ → ℕ
       row′ = F.rowed prime′ s.row (F.on-path prime′ n s.row n i)
 
-      pub flipped : F.Flipped n (Zero working) s.star s.row i star′ row′
+      pub flipped : F.Flipped n (Zero n ok working) s.star s.row i star′ row′
       flipped =
-          F.flip n prime′ time′ s.row chained (Zero working)
+          F.flip n prime′ time′ s.row chained (Zero n ok working)
           (primes′ s.phase i j (s .last .row-below) (s .last .column-below) (s .last .is-open .row) (s .last .is-open .column) (s .last .is-open .allowed, s .last .zero))
           n s.star i (s .last .row-below) (rw at-prime (s .last .column-below)) early s.bare (s .phase .matching) (s .phase .stars)
 
-      abbrev pub augmented : Starred working (clear-primes (flip n marks (path n marks n i j)))
+      abbrev pub augmented : Starred n ok working (clear-primes (flip n marks (path n marks n i j)))
       augmented = record {
         star = star′;
         row = row′;
@@ -200,8 +152,8 @@ module _ (n : ℕ) (ok : ℕ → ℕ → Bool) where
           omega (arith, e, find-count s.shows, flipped .more, bit-ge (s .star i) n s.bare)
 
   -- step 6: cells on one covered line keep their working values
-  abbrev pub adjusted : {working : List ℤ} {marks : List ℕ} {rows columns : ℕ} (z : ℤ) → length working ≡ n * n → Search working marks rows columns
-      → Search (followed n ok z rows columns working) marks rows columns
+  abbrev pub adjusted : {working : List ℤ} {marks : List ℕ} {rows columns : ℕ} (z : ℤ) → length working ≡ n * n → Search n ok working marks rows columns
+      → Search n ok (followed n ok z rows columns working) marks rows columns
   adjusted {working} {rows = rows} {columns = columns} z size s = record {
     star = s .star;
     row = s .row;
@@ -209,7 +161,7 @@ module _ (n : ℕ) (ok : ℕ → ℕ → Bool) where
     time = s .time;
     shows = s .shows;
     phase =
-        phase-adjusted s.phase (Zero (followed n ok z rows columns working))
+        phase-adjusted s.phase (Zero n ok (followed n ok z rows columns working))
         (λ i j hi hj t u o. (o .0, row-stays n ok z rows columns working size i j hi hj t u ∙ o .1))
         (λ i j hi hj t u o. (o .0, column-stays n ok z rows columns working size i j hi hj t u ∙ o .1));
     missing = s .missing;
@@ -218,23 +170,23 @@ module _ (n : ℕ) (ok : ℕ → ℕ → Bool) where
   -- ---- every step
 
   module _ (budget : ℕ) where
-    pub sound-step : (m : Machine) → Shape n m → Sound m → Sound (step n ok budget m)
+    pub sound-step : (m : Machine) → Shape n m → Sound n ok m → Sound n ok (step n ok budget m)
     unfolding step step-at step5 augmenting covering reaching adjusting
     sound-step m shape sound = go (m .run .next) (sound .at-next)
       where
-        go : (x : Next) → Sound-at x m → Sound (step-at n ok budget x m)
+        go : (x : Next) → Sound-at n ok x m → Sound n ok (step-at n ok budget x m)
         go Step3 h =
-            step3-ind n ok (m .marks) (m .run) (λ o. Sound (machine o (m .working) (m .marks) (m .row-prices) (m .column-prices)))
+            step3-ind n ok (m .marks) (m .run) (λ o. Sound n ok (machine o (m .working) (m .marks) (m .row-prices) (m .column-prices)))
             (λ full. record { at-next = (h .0, full) })
             (λ part. record { at-next = begun (h .0) (h .1) refl part })
         go Step4 s =
-            step4-ind n ok (m .working) (m .run) (m .marks) (λ o. Sound (machine (o .0) (m .working) (o .1) (m .row-prices) (m .column-prices)))
+            step4-ind n ok (m .working) (m .run) (m .marks) (λ o. Sound n ok (machine (o .0) (m .working) (o .1) (m .row-prices) (m .column-prices)))
             (λ i j z h. record { at-next = covered s i j z h })
             (λ i j z h. record { at-next = ready s i j z h })
             (λ none. record { at-next = (s, none) })
         go (Step5 i j) s = record { at-next = (augmented s, refl) }
         go Step6 h =
-            step6-ind n ok budget (m .run) (m .working) (m .row-prices) (m .column-prices) (λ o. Sound (machine (o .0) (o .1) (m .marks) (o .2) (o .3)))
+            step6-ind n ok budget (m .run) (m .working) (m .row-prices) (m .column-prices) (λ o. Sound n ok (machine (o .0) (o .1) (m .marks) (o .2) (o .3)))
             (λ none. record { at-next = (h .0, none) })
             (λ z l e. record { at-next = (h .0, h .1) })
             (λ z l e. record { at-next = adjusted z (shape .working) (h .0) })

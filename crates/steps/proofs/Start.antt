@@ -1,25 +1,25 @@
 -- Step 2 leaves stars on zeros, one at most in each row and column; and one at least, if row 0 has a zero.
-use mathlib.Core.Path.{refl, ap}
+use mathlib.Core.Path.{refl}
 use mathlib.Core.Logic.{dite}
-use mathlib.Core.Bool.{Bool, not, cond, _&&_}
+use mathlib.Core.Bool.{Bool, not, _&&_}
 use mathlib.Core.List.{List}
 use Prim.Native.Nat.{ℕ, zero, suc, _+_, _*_, _≤_, _<_}
 use native.Mathlib.Decide.{ℕ-discrete, decLt}
 use native.Mathlib.Omega.{arith}
 use lib.Dec.{T, T-not, not-T, ltb, ltb→lt, lt→ltb, nltb→le}
-use lib.IntN.{ℤ, pos}
+use lib.IntN.{ℤ}
 use lib.ListN.{set}
-use Rattle.lines.specs.Count.{count}
 use Rattle.lines.specs.Square.{square}
 use Rattle.lines.proofs.Tests.{cond-ind, both, and-left, and-right}
-use Rattle.lines.proofs.Puts.{put, put-off, put-case}
+use Rattle.lines.specs.Put.{put}
+use Rattle.lines.proofs.Puts.{put-off, put-case}
 use Rattle.lines.proofs.Counts.{count-pos}
 use Rattle.lines.proofs.Firsts.{first-is}
 use Rattle.steps.specs.Steps.{star-in-column, star-count, zero-at, excess, free-zero, star-row, step2, start}
 use Rattle.steps.proofs.Turns.{zero-is, is-zero-pos}
-use Rattle.steps.proofs.Matching.{Matching, moved, none-apart, starless, has-star}
-use Rattle.steps.proofs.Marks.{Shows, show-none, show-bare, show-starred, find-row, find-count}
-use Rattle.steps.proofs.Search.{Zero, Starred, Sound}
+use Rattle.steps.specs.Going.{Matching, has-star, Shows, Zero, Starred, Sound}
+use Rattle.steps.proofs.Matching.{moved, none-apart, starless}
+use Rattle.steps.proofs.Marks.{show-none, show-bare, show-starred, find-row, find-count}
 
 module _ (n : ℕ) (ok : ℕ → ℕ → Bool) (working : List ℤ) where
   zero-at-is : (i j : ℕ) → T (zero-at n ok working i j) → Zero n ok working i j

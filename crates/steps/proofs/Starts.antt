@@ -1,6 +1,6 @@
 -- Step 1 reads no cost of a forbidden cell: where every row has an allowed cell, the start depends on the costs of allowed cells alone.
 use mathlib.Core.Path.{_≡_, refl, ap, _∙_}
-use mathlib.Core.Bool.{Bool, cond}
+use mathlib.Core.Bool.{Bool}
 use Prim.Native.Nat.{ℕ, _<_}
 use lib.Dec.{T}
 use lib.IntN.{ℤ}

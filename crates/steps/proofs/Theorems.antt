@@ -1,42 +1,34 @@
 -- The theorems about a call that stand beside the promise, each by its name. `answered` and `promised` are in Promised.antt.
 use mathlib.Core.Path.{_≡_, refl, sym, ap, subst, _∙_}
 use mathlib.Core.Logic.{_≢_}
-use mathlib.Core.Bool.{Bool, false}
+use mathlib.Core.Bool.{Bool}
 use mathlib.Core.List.{List}
-use mathlib.Core.Option.{some, Option·some-injective, Option·none-ne-some}
-use Prim.Native.Nat.{ℕ, suc, _+_, _-_, _*_, _^_, _≤_, _<_, min}
+use Prim.Native.Nat.{ℕ, _+_, _-_, _*_, _≤_, _<_, min}
 use native.Mathlib.Omega.{arith}
-use lib.Dec.{T, T-not, eqb}
-use lib.IntN.{ℤ, pos, negsuc}
-use lib.Signed.{ltZ}
-use lib.ListN.{length, getD}
-use mir.Syntax.{w64}
-use mir.Val.{SFits}
-use Rattle.lines.proofs.Tests.{both, nor}
-use Rattle.lines.proofs.Squares.{place-lt, table-at}
-use Rattle.lines.proofs.Signed.{signed, Within, within-fits}
+use lib.IntN.{ℤ}
+use lib.ListN.{length}
+use Rattle.lines.proofs.Squares.{table-at}
 use Rattle.steps.specs.declared.Answer.{Answer}
-use Rattle.steps.specs.Lent.{Task, Buffers, allowed, cost, allows, cost-at}
-use Rattle.steps.specs.Refusal.{accepted, out-of-range, bad-cost, verdict}
-use Rattle.steps.specs.Steps.{Next, Step3, Step4, Step5, Step6, Paired, NoPairing, Unfinished, Machine, star-in-column, prime-in-row, star-in-row, start, path}
+use Rattle.steps.specs.Lent.{Task, Buffers, allowed, cost}
+use Rattle.steps.specs.Refusal.{accepted, verdict}
+use Rattle.steps.specs.Steps.{Unfinished, End, paired, no-pairing, unfinished, Machine, star-in-column, prime-in-row, star-in-row, start, path}
 use Rattle.steps.specs.Counts.{adjusts, primes, augments, turns}
-use Rattle.steps.specs.Outcome.{given, judged, Outcome}
+use Rattle.steps.specs.Outcome.{given, returned, reached, judged, Outcome}
 use Rattle.steps.specs.Promise.{Promise}
 use Rattle.steps.proofs.Runs.{kept}
-use Rattle.steps.proofs.Shape.{Shape, shape-start, shape-step}
+use Rattle.steps.specs.Going.{Shape, Ends, Sound, Sound-at, Ready}
+use Rattle.steps.proofs.Shape.{shape-start, shape-step}
 use Rattle.steps.proofs.Start.{sound-start}
-use Rattle.steps.proofs.Ends.{paired}
+use Rattle.steps.proofs.Ends as E
 use Rattle.steps.proofs.Marks.{find-prime}
-use Rattle.steps.proofs.Path.{Ends, star-off, path-length, path-ends, prime-there}
-use Rattle.steps.proofs.Search.{Sound, Sound-at, sound-step, Ready, time′, prime′, chained, early, at-prime}
+use Rattle.steps.proofs.Path.{star-off, path-length, path-ends, prime-there}
+use Rattle.steps.proofs.Search.{sound-step, time′, prime′, chained, early, at-prime}
 use Rattle.steps.proofs.Budget.{Spent, spent, spent-start}
 use Rattle.steps.proofs.Counted.{counted}
-use Rattle.steps.proofs.Limited.{Limited, InLimits, limited-start, limited-step, limits}
-use Rattle.steps.proofs.Limits.{limit-fresh}
-use Rattle.steps.proofs.Fresh.{Fresh, fresh-step, fresh-start}
-use Rattle.steps.proofs.Verdicts.{Accepted, accepted-is, SameLengths, with-budget, with-costs, SameAllowed}
+use Rattle.steps.proofs.Verdicts.{SameLengths, with-budget, with-costs, SameAllowed}
 use Rattle.steps.proofs.Answers as A
-use Rattle.steps.proofs.Answers.{reached, EachSameOrUntouched, PairedAllowed}
+use Rattle.steps.proofs.Answers.{EachSameOrUntouched, PairedAllowed}
+use Rattle.steps.proofs.Returned.{returned-is}
 use Rattle.steps.proofs.Promised.{promised}
 
 -- ---- the path of step 5: at most 2 n - 1 places, all in the square, and a prime wherever one is looked for
@@ -69,21 +61,18 @@ module _ (limit : ℕ) (t : Task) (before : Buffers) where
     pub primed : a .primes ≡ turns (t .n) (allowed t) (t .budget) primes k (start (t .n) (allowed t) (cost t))
     pub augmentations : a .augmentations ≡ turns (t .n) (allowed t) (t .budget) augments k (start (t .n) (allowed t) (cost t))
 
-  given-counts : (m : Machine) (x : Next) (o : Answer × Buffers) → given t before m x ≡ some o
+  returned-counts : (m : Machine) (e : End) {o : Answer × Buffers} → returned t before m e ≡ o
       → (m .run .adjustments ≡ o .0 .adjustments) × (m .run .primes ≡ o .0 .primes) × (m .run .augmentations ≡ o .0 .augmentations)
-  unfolding given
-  given-counts m Step3 o e = absurd (Option·none-ne-some _ e)
-  given-counts m Step4 o e = absurd (Option·none-ne-some _ e)
-  given-counts m (Step5 i j) o e = absurd (Option·none-ne-some _ e)
-  given-counts m Step6 o e = absurd (Option·none-ne-some _ e)
-  given-counts m Paired o e = rw (← Option·some-injective _ o e) (refl, refl, refl)
-  given-counts m NoPairing o e = rw (← Option·some-injective _ o e) (refl, refl, refl)
-  given-counts m Unfinished o e = rw (← Option·some-injective _ o e) (refl, refl, refl)
+  unfolding returned given
+  returned-counts m paired q = rw (← q) (refl, refl, refl)
+  returned-counts m no-pairing q = rw (← q) (refl, refl, refl)
+  returned-counts m unfinished q = rw (← q) (refl, refl, refl)
 
   pub counts-are-turns : {a : Answer} {after : Buffers} → verdict t limit before ≡ accepted → (o : Outcome limit t before a after) → Turned a (o .count)
-  unfolding judged start
+  unfolding start
   counts-are-turns {a} {after} v o =
-      let g = given-counts (reached t (o .count)) _ (a, after) (sym (ap (judged t before (o .count)) v) ∙ o .exact) in
+      let r = returned-is t before (o .count) (sym (ap (judged t before (o .count)) v) ∙ o .exact) in
+      let g = returned-counts (reached t (o .count)) (r .end) (r .value) in
       let c = counted (t .n) (allowed t) (t .budget) (o .count) (start (t .n) (allowed t) (cost t)) in
       record {
         adjustments = omega (arith, g .0, c .adjustments);
@@ -95,59 +84,6 @@ module _ (limit : ℕ) (t : Task) (before : Buffers) where
   pub minimum-left : (k : ℕ) → reached t k .run .next ≡ Unfinished → Spent (t .n) (allowed t) (t .budget) (reached t k)
   minimum-left k e = spent (t .n) (allowed t) (t .budget) _ (spent-start (t .n) (allowed t) (t .budget) (cost t)) k e
 
-  -- ---- limits: nothing overflows
-
-  abbrev pub most-cost : ℕ
-  most-cost = 1_000_000_000
-
-  pub cost-within : Accepted limit t before → (i j : ℕ) → i < t .n → j < t .n → T (allowed t i j) → Within most-cost (cost t i j)
-  unfolding allows cost-at bad-cost out-of-range
-  cost-within f i j hi hj u =
-      let q = i * t .n + j in
-      in-range (getD (t .costs) q (pos 0)) (λ bad. T-not (bad-cost (t .costs) (t .mask) q) (f .fit .costs q (place-lt (t .n) i j hi hj)) (both (eqb (getD (t .mask) q 1) 1) _ u bad))
-    where
-      in-range : (z : ℤ) → (T (out-of-range z) → ⊥) → Within most-cost z
-      in-range z f =
-          let e = nor (ltZ z (negsuc 999_999_999)) (ltZ (pos 1_000_000_000) z) f in
-          let a : ltZ z (negsuc 999_999_999) ≡ false = e .0 in
-          let b : ltZ (pos 1_000_000_000) z ≡ false = e .1 in
-          record { above = omega signed; below = omega signed }
-
-  module _ (v : verdict t limit before ≡ accepted) where
-    fit : Accepted limit t before
-    fit = accepted-is limit t before v
-
-    within : (i j : ℕ) → i < t .n → j < t .n → T (allowed t i j) → Within most-cost (cost t i j)
-    within = cost-within fit
-
-    Limited-fresh : Machine → Type 0
-    Limited-fresh m = Fresh (t .n) (allowed t) (cost t) m × Limited (t .n) most-cost most-cost 0 m
-
-    limited : (k : ℕ) → Limited-fresh (reached t k)
-    unfolding Limited-fresh
-    limited k =
-        kept (t .n) (allowed t) (t .budget) Limited-fresh
-        (λ m h. (
-          fresh-step (t .n) (allowed t) (cost t) (t .budget) m (h .0),
-          limited-step (t .n) (allowed t) (cost t) within (t .budget) m (h .0 .shape) (h .0 .sound) (h .0 .priced) (h .1),
-        ))
-        (start (t .n) (allowed t) (cost t))
-        (fresh-start (t .n) (allowed t) (cost t) (fit .fit .some) (fit .rows), limited-start (t .n) (allowed t) (cost t) within (fit .rows)) k
-
-    -- every price and working value, at every step on the way
-    pub in-limits : (k : ℕ) → InLimits (t .n) (2 * most-cost + 4 * most-cost * t .n) (reached t k)
-    unfolding Limited-fresh
-    in-limits k =
-        let h = limited k in
-        rw (limit-fresh (t .n) most-cost) at (limits (t .n) (allowed t) (cost t) within (reached t k) (fit .fit .some) (h .0 .sound) (h .0 .priced) (h .1))
-
-  -- which is below 2^42 up to n = 256, so that 64 bits hold it
-  pub limits-small : t .n ≤ 256 → 2 * most-cost + 4 * most-cost * t .n < 2 ^ 42
-  limits-small h = omega arith
-
-  pub fits-64-bits : t .n ≤ 256 → (z : ℤ) → Within (2 * most-cost + 4 * most-cost * t .n) z → SFits w64 z
-  fits-64-bits h z w = within-fits w64 w (omega (arith, limits-small h))
-
 -- ---- what the outcome does not depend on
 
 -- at a pairing every chosen column is allowed
@@ -156,7 +92,7 @@ chosen-allowed t k e i hi =
     let n = t .n in
     let h = kept n (allowed t) (t .budget) (λ m. Shape n m × Sound n (allowed t) m) (λ m h. (shape-step n (allowed t) (t .budget) m (h .0), sound-step n (allowed t) (t .budget) m (h .0) (h .1))) _ (shape-start n (allowed t) (cost t), sound-start n (allowed t) (cost t)) k in
     let s = subst (λ x. Sound-at n (allowed t) x (reached t k)) e (h .1 .at-next) in
-    rw (table-at 0 (star-in-row n (reached t k .marks)) n i hi) at (paired n (allowed t) (s .0) (s .1) .allowed i hi)
+    rw (table-at 0 (star-in-row n (reached t k .marks)) n i hi) at (E.paired n (allowed t) (s .0) (s .1) .allowed i hi)
 
 module _ {limit : ℕ} {t : Task} {before : Buffers} where
   -- two answers that meet the promise are equal, and so is every byte lent

@@ -1,5 +1,5 @@
 -- What the search of each step tells, and each step by its cases: what holds of every case, with what the search tells there, holds of the step.
-use mathlib.Core.Path.{_≡_, refl, ap}
+use mathlib.Core.Path.{_≡_, ap}
 use mathlib.Core.Logic.{_≢_}
 use mathlib.Core.Bool.{Bool, not, cond, _&&_}
 use mathlib.Core.List.{List}
@@ -9,13 +9,14 @@ use lib.Dec.{T, T-not, ltb, ltb→lt, nltb→le, eqb, eqb→eq, eqb-refl}
 use lib.IntN.{ℤ, pos, negsuc}
 use lib.Signed.{_≤ℤ_}
 use lib.ListN.{getD, set}
-use Rattle.lines.specs.First.{first, least}
+use Rattle.lines.specs.First.{least}
 use Rattle.lines.specs.Square.{cell}
 use Rattle.lines.specs.Sets.{has}
 use Rattle.lines.proofs.Tests.{cond-ind, both, and-left, and-right, T-yes, eqb-yes}
 use Rattle.lines.proofs.Firsts.{first-is}
 use Rattle.lines.proofs.Leasts.{least-is}
 use Rattle.lines.proofs.Squares.{place-lt, place-of, place-in, place-back}
+use Rattle.steps.specs.Going.{Open, OpenZero, NoZero, NoOpen}
 use Rattle.steps.specs.Steps.{Next, Step3, Step4, Step5, Step6, Paired, NoPairing, Unfinished, Run, run-with, Machine, to, is-zero, star-in-row, star-columns, star-count, zero-at, step3, uncovered, covering, reaching, zero-in-column, zero-column, step4, adjusting, lowest, followed, lowered, raised, step6, step5, augmenting, step-at, step}
 
 pub zero-is : (z : ℤ) → T (is-zero z) → z ≡ pos 0
@@ -27,26 +28,7 @@ pub is-zero-pos : T (is-zero (pos 0))
 unfolding is-zero
 is-zero-pos = eqb-refl 0
 
--- an allowed cell in an uncovered row and column
-pub record Open (ok : ℕ → ℕ → Bool) (rows columns i j : ℕ) : Type 0 where
-  pub row : T (not (has rows i))
-  pub column : T (not (has columns j))
-  pub allowed : T (ok i j)
-
 module _ (n : ℕ) (ok : ℕ → ℕ → Bool) where
-  -- one with working value 0
-  pub record OpenZero (working : List ℤ) (rows columns i j : ℕ) : Type 0 where
-    pub row-below : i < n
-    pub column-below : j < n
-    pub is-open : Open ok rows columns i j
-    pub zero : cell (pos 0) n working i j ≡ pos 0
-
-  abbrev pub NoZero : List ℤ → ℕ → ℕ → Type 0
-  NoZero working rows columns = (i j : ℕ) → i < n → j < n → Open ok rows columns i j → cell (pos 0) n working i j ≢ pos 0
-
-  abbrev pub NoOpen : ℕ → ℕ → Type 0
-  NoOpen rows columns = (i j : ℕ) → i < n → j < n → Open ok rows columns i j → ⊥
-
   -- z is the least working value of the open cells, and there is one
   pub record Lowest (working : List ℤ) (rows columns : ℕ) (z : ℤ) : Type 0 where
     pub row : ℕ
@@ -63,7 +45,7 @@ module _ (n : ℕ) (ok : ℕ → ℕ → Bool) where
     zero? : ℕ → ℕ → Bool
     zero? i j = uncovered rows columns i j && zero-at n ok working i j
 
-    zero?-is : (i j : ℕ) → i < n → j < n → T (zero? i j) → OpenZero working rows columns i j
+    zero?-is : (i j : ℕ) → i < n → j < n → T (zero? i j) → OpenZero n ok working rows columns i j
     unfolding zero? uncovered zero-at
     zero?-is i j hi hj t =
         let u = and-left (not (has rows i) && not (has columns j)) _ t in
@@ -81,14 +63,14 @@ module _ (n : ℕ) (ok : ℕ → ℕ → Bool) where
         both (not (has rows i) && not (has columns j)) _ (both (not (has rows i)) _ (o .row) (o .column))
         (both (ok i j) _ (o .allowed) (rw e is-zero-pos))
 
-    pub zero-found : zero-column n ok working rows columns < n → OpenZero working rows columns (zero-in-column n ok working rows columns (zero-column n ok working rows columns)) (zero-column n ok working rows columns)
+    pub zero-found : zero-column n ok working rows columns < n → OpenZero n ok working rows columns (zero-in-column n ok working rows columns (zero-column n ok working rows columns)) (zero-column n ok working rows columns)
     unfolding zero-column zero-in-column zero?
     zero-found h =
         let j = zero-column n ok working rows columns in
         let l : zero-in-column n ok working rows columns j < n = ltb→lt _ _ (first-is (λ j. ltb (zero-in-column n ok working rows columns j) n) n .hit h) in
         zero?-is _ j l h (first-is (λ i. zero? i j) n .hit l)
 
-    pub zero-none : n ≤ zero-column n ok working rows columns → NoZero working rows columns
+    pub zero-none : n ≤ zero-column n ok working rows columns → NoZero n ok working rows columns
     unfolding zero-column zero-in-column zero?
     zero-none h i j hi hj o e =
         let l : n ≤ zero-in-column n ok working rows columns j = nltb→le _ _ (first-is (λ j. ltb (zero-in-column n ok working rows columns j) n) n .before j (omega arith)) in
@@ -130,7 +112,7 @@ module _ (n : ℕ) (ok : ℕ → ℕ → Bool) where
           low = λ i j hi hj o. low-at i j hi hj o .1;
         }
 
-    pub lowest-none : n * n ≤ lowest n ok working rows columns → NoOpen rows columns
+    pub lowest-none : n * n ≤ lowest n ok working rows columns → NoOpen n ok rows columns
     lowest-none h i j hi hj o = omega (arith, low-at i j hi hj o .0)
 
   -- ---- the steps by cases
@@ -151,9 +133,9 @@ module _ (n : ℕ) (ok : ℕ → ℕ → Bool) where
     marked i j = set marks (i * n + j) 2
 
     pub step4-ind : (P : Run × List ℕ → Type 0)
-        → ((i j : ℕ) → OpenZero working (r .rows) (r .columns) i j → star-in-row n (marked i j) i < n → P (covering i (star-in-row n (marked i j) i) r, marked i j))
-        → ((i j : ℕ) → OpenZero working (r .rows) (r .columns) i j → n ≤ star-in-row n (marked i j) i → P (reaching i j r, marked i j))
-        → (NoZero working (r .rows) (r .columns) → P (to Step6 r, marks))
+        → ((i j : ℕ) → OpenZero n ok working (r .rows) (r .columns) i j → star-in-row n (marked i j) i < n → P (covering i (star-in-row n (marked i j) i) r, marked i j))
+        → ((i j : ℕ) → OpenZero n ok working (r .rows) (r .columns) i j → n ≤ star-in-row n (marked i j) i → P (reaching i j r, marked i j))
+        → (NoZero n ok working (r .rows) (r .columns) → P (to Step6 r, marks))
         → P (step4 n ok working r marks)
     unfolding step4
     step4-ind P covers reaches none =
@@ -167,7 +149,7 @@ module _ (n : ℕ) (ok : ℕ → ℕ → Bool) where
 
   module _ (budget : ℕ) (r : Run) (working row-prices column-prices : List ℤ) where
     pub step6-ind : (P : Run × List ℤ × List ℤ × List ℤ → Type 0)
-        → (NoOpen (r .rows) (r .columns) → P (to NoPairing r, working, row-prices, column-prices))
+        → (NoOpen n ok (r .rows) (r .columns) → P (to NoPairing r, working, row-prices, column-prices))
         → ((z : ℤ) → Lowest working (r .rows) (r .columns) z → r .adjustments ≡ budget → P (to Unfinished r, working, row-prices, column-prices))
         → ((z : ℤ) → Lowest working (r .rows) (r .columns) z → r .adjustments ≢ budget → P (adjusting r, followed n ok z (r .rows) (r .columns) working, lowered z (r .rows) row-prices, raised z (r .columns) column-prices))
         → P (step6 n ok budget r working row-prices column-prices)

@@ -15,6 +15,10 @@ which Paired = 0
 which NoPairing = 0
 which Unfinished = 0
 
+-- at one of the three ends
+abbrev pub over : Next → Bool
+over x = eqb (which x) 0
+
 -- a turn from step x to step y
 unfoldable pub adjusts : Next → Next → Bool
 adjusts x y = eqb (which x) 6 && eqb (which y) 4

@@ -7,8 +7,7 @@ use lib.IntN.{ℤ}
 use lib.ListN.{replicate}
 use Rattle.steps.specs.declared.Answer.{Answer}
 use Rattle.steps.specs.Lent.{Buffers}
-use Rattle.steps.specs.Samples.{+_, -_, X, _│_, untouched, standing, paired, no-pairing, unfinished, refused, Row, row}
-use Rattle.steps.specs.Samples.{Lengths, rubbish, told, wanted, outcome, computed}
+use Rattle.steps.specs.Samples.{+_, -_, X, _│_, untouched, standing, paired, no-pairing, unfinished, refused, Row, row, Lengths, rubbish, told, wanted, outcome, computed}
 
 -- ---- the steps
 

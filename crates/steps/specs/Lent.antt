@@ -13,6 +13,9 @@ pub record Task : Type 0 where
   pub mask : List ℕ
   pub budget : ℕ
 
+abbrev pub task : ℕ → List ℤ → List ℕ → ℕ → Task
+task n costs mask budget = record { n = n; costs = costs; mask = mask; budget = budget }
+
 -- what a call may write
 pub record Buffers : Type 0 where
   pub working : List ℤ
@@ -20,6 +23,14 @@ pub record Buffers : Type 0 where
   pub columns : List ℕ
   pub row-prices : List ℤ
   pub column-prices : List ℤ
+
+abbrev pub buffers : List ℤ → List ℕ → List ℕ → List ℤ → List ℤ → Buffers
+buffers working marks columns row-prices column-prices =
+    record { working = working; marks = marks; columns = columns; row-prices = row-prices; column-prices = column-prices }
+
+-- an allowed cost is at most this far from 0
+abbrev pub most-cost : ℕ
+most-cost = 1_000_000_000
 
 -- cells of rows of n; past the end of what is lent, a cell is allowed and costs 0
 unfoldable pub allows : ℕ → List ℕ → ℕ → ℕ → Bool

@@ -1,8 +1,11 @@
 pub mod Lent
+pub mod Rules
 pub mod Refusal
 pub mod Steps
 pub mod Counts
 pub mod Outcome
 pub mod Promise
+pub mod Going
+pub mod Bounds
 pub mod Samples
 pub mod FurtherSamples

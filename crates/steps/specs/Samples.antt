@@ -15,12 +15,12 @@ use Rattle.lines.specs.Sets.{has, with, without, all, rest, those}
 use Rattle.assignment.specs.Problem.{total}
 use Rattle.steps.specs.declared.Answer.{Answer}
 use Rattle.steps.specs.Lent.{Task, Buffers, allows, cost-at}
-use Rattle.steps.specs.Refusal.{out-of-range, lengths, bad-mask, bad-cost, dead-row, verdict}
+use Rattle.steps.specs.Rules.{by-rules}
+use Rattle.steps.specs.Refusal.{out-of-range, has-room, bad-mask, bad-cost, dead-row, rules, by-rows, judgement, verdict}
 use Rattle.steps.specs.Steps.{is-zero, star-in-row, star-in-column, prime-in-row, star-columns, star-count, row-price, excess, zero-at}
 use Rattle.steps.specs.Steps.{free-zero, star-row, step2, start, step3, uncovered, covering, reaching, zero-in-column, zero-column, step4}
-use Rattle.steps.specs.Steps.{clear-primes, augmenting, path, flip, step5, adjusting, follow, lowered, raised, lowest, followed, step6}
-use Rattle.steps.specs.Steps.{step-at, step, steps}
-use Rattle.steps.specs.Outcome.{chosen, written, given, judged}
+use Rattle.steps.specs.Steps.{clear-primes, augmenting, path, flip, step5, adjusting, follow, lowered, raised, lowest, followed, step6, step-at, step, steps}
+use Rattle.steps.specs.Outcome.{given, written, returned, judged}
 
 -- ---- how a matrix is written: + 250 ∷ - 5 │ X ∷ + 0 ∷ [] has the rows 250 -5 and X 0
 
@@ -173,9 +173,9 @@ read (some o) = some (answer-read (o .0), buffers-read (o .1))
 -- 99 steps are more than any sample needs: at an end the machine stays as it is
 unfoldable pub outcome : Task → Buffers → Option (Answer × Buffers)
 unfolding sum sumℤ bit count first-on first any least-on least table square each-from each has with without all rest those total allows cost-at
-    out-of-range lengths bad-mask bad-cost dead-row verdict is-zero star-in-row star-in-column prime-in-row star-columns star-count row-price excess
+    out-of-range has-room bad-mask bad-cost dead-row rules by-rules by-rows judgement verdict is-zero star-in-row star-in-column prime-in-row star-columns star-count row-price excess
     zero-at free-zero star-row step2 start step3 uncovered covering reaching zero-in-column zero-column step4 clear-primes augmenting path flip step5
-    adjusting follow lowered raised lowest followed step6 step-at step steps chosen written given judged read
+    adjusting follow lowered raised lowest followed step6 step-at step steps given written returned judged read
 outcome t before = read (judged t before 99 (verdict t 64 before))
 
 unfoldable pub computed : Row → Option (Answer × Buffers)

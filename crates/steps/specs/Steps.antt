@@ -1,11 +1,12 @@
 -- Document 01's steps 1 to 6 as a machine: a definition for each step, over exactly what it reads and changes.
 use mathlib.Core.Bool.{Bool, false, cond, not, _&&_}
 use mathlib.Core.List.{List, [], _∷_}
+use mathlib.Core.Option.{Option, none, some}
 use Prim.Native.Nat.{ℕ, zero, suc, _+_, _*_, _/_, _%_}
 use lib.Dec.{eqb, ltb}
 use lib.IntN.{ℤ, pos, negsuc, _+ℤ_, _-ℤ_}
 use lib.ListN.{getD, set}
-use Rattle.lines.specs.First.{first, any, least}
+use Rattle.lines.specs.First.{first, least}
 use Rattle.lines.specs.Count.{count}
 use Rattle.lines.specs.Square.{cell, table, square, each}
 use Rattle.lines.specs.Sets.{has, with, without, those}
@@ -19,6 +20,21 @@ pub data Next : Type 0 where
   Paired : Next
   NoPairing : Next
   Unfinished : Next
+
+-- the three ends
+pub data End : Type 0 where
+  paired : End
+  no-pairing : End
+  unfinished : End
+
+abbrev pub end-of : Next → Option End
+end-of Paired = some paired
+end-of NoPairing = some no-pairing
+end-of Unfinished = some unfinished
+end-of Step3 = none
+end-of Step4 = none
+end-of (Step5 i j) = none
+end-of Step6 = none
 
 -- the covered rows and columns, the three counts, and what is next
 pub record Run : Type 0 where

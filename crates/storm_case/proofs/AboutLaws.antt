@@ -20,12 +20,11 @@ use Rattle.lines.proofs.Squares.{table-at, square-at}
 use Rattle.lines.proofs.Sumsℤ.{sumℤ-ext}
 use Rattle.assignment.specs.Problem.{column, AllowedPairing, Block, total}
 use Rattle.steps.specs.declared.Answer.{Answer}
-use Rattle.steps.specs.Lent.{Task, Buffers, allows, cost-at, allowed, cost}
+use Rattle.steps.specs.Lent.{Task, Buffers, allows, cost-at, allowed, cost, task}
 use Rattle.steps.specs.Refusal as R
 use Rattle.steps.specs.Steps as S
 use Rattle.steps.specs.Outcome.{given, judged, Outcome}
 use Rattle.steps.specs.Promise.{Fit, Promise}
-use Rattle.munkres.specs.View.{task}
 use Rattle.storm_case.specs.declared.pair.Pairs.{Pairs}
 use Rattle.storm_case.specs.Scan.{Scan}
 use Rattle.storm_case.specs.Case.{row-area, column-area, clock-error, may-pair, pair-cost, mask-byte}

@@ -7,9 +7,8 @@ use native.Mathlib.Omega.{arith}
 use lib.ListN.{take, drop, take-append-drop}
 use Rattle.lines.proofs.Tests.{by-cases}
 use Rattle.steps.specs.declared.Answer.{Answer}
-use Rattle.steps.specs.Lent.{Task, Buffers}
+use Rattle.steps.specs.Lent.{Task, Buffers, buffers}
 use Rattle.steps.specs.Promise.{Promise}
-use Rattle.munkres.specs.View.{buffers}
 use Rattle.storm_case.specs.declared.pair.Pairs.{Pairs}
 use Rattle.storm_case.specs.Scan as D
 use Rattle.storm_case.specs.Pair.{Room, room, enough-room, front, behind, paired, Solved, PairPromise}

@@ -15,10 +15,9 @@ use Rattle.lines.specs.Square.{square}
 use Rattle.lines.proofs.Squares.{length-square}
 use Rattle.lines.proofs.Tests.{and-left, and-right, by-cases, clash}
 use Rattle.steps.specs.declared.Answer.{Answer}
-use Rattle.steps.specs.Lent.{Buffers}
+use Rattle.steps.specs.Lent.{Buffers, task, buffers}
 use Rattle.steps.specs.Refusal as R
 use Rattle.steps.specs.Promise.{Promise}
-use Rattle.munkres.specs.View.{task, buffers}
 use Rattle.storm_case.specs.declared.Case.{Case}
 use Rattle.storm_case.specs.declared.pair.Pairs.{Pairs}
 use Rattle.storm_case.specs.Scan as D

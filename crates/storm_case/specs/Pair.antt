@@ -11,9 +11,8 @@ use Rattle.lines.specs.Square.{square}
 use Rattle.lines.specs.Sets.{has}
 use Rattle.assignment.specs.Problem.{AllowedPairing, NoneBelow, Impossible, Block, total}
 use Rattle.steps.specs.declared.Answer.{Answer}
-use Rattle.steps.specs.Lent.{Buffers}
+use Rattle.steps.specs.Lent.{Buffers, task, buffers}
 use Rattle.steps.specs.Promise.{Promise}
-use Rattle.munkres.specs.View.{task, buffers}
 use Rattle.storm_case.specs.declared.pair.Pairs.{Pairs}
 use Rattle.storm_case.specs.Scan.{Scan, refused, accepted, judged}
 use Rattle.storm_case.specs.Case.{clock-error, may-pair, pair-cost, mask-byte, filled}

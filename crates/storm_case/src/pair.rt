@@ -3,7 +3,7 @@ ghost use mathlib.Core.Path.{_≡_};
 ghost use mathlib.Core.Bool.{true};
 ghost use Prim.Native.Nat.{_*_, _≤_};
 ghost use lib.ListN.{take};
-ghost use Rattle.munkres.specs.View.{buffers};
+ghost use Rattle.steps.specs.Lent.{buffers};
 ghost use Rattle.storm_case.specs.Pair.{room, fits, enough-room, unpaired as Pair·unpaired, paired as Pair·paired, enough as Pair·enough, SolvedBy, PairPromise};
 use steps::Answer;
 

@@ -4,7 +4,7 @@ use mathlib.Core.List.{List}
 use Prim.Native.Nat.{ℕ}
 use lib.IntN.{pos}
 use lib.ListN.{replicate}
-use Rattle.munkres.specs.View.{buffers}
+use Rattle.steps.specs.Lent.{buffers}
 use Rattle.storm_case.specs.declared.pair.Pairs.{Pairs}
 use Rattle.storm_case.specs.Pair.{Room, room, PairPromise}
 use Rattle.text.specs.Text.{put}

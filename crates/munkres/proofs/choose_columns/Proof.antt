@@ -42,7 +42,7 @@ star : (c : tie.After-find-first-star-in-row Inv-loop μ-loop)
     (column < n) × (c .before .before .loop .row * n + column < n * n)
 star c =
     let h = c .before .loop-test .taken in
-    let l = rw (sym (c .find-first-star-in-row .ensures)) at (c .before .before .before .before .before .pre .3 _ h) in
+    let l = rw (sym (c .find-first-star-in-row .ensures)) at (c .before .before .before .before .before .pre .3 _ h .0) in
     (l, place-lt _ _ _ h l)
 
 -- its cost is added
@@ -56,7 +56,7 @@ cost-added c =
     let s = c .before .before .before .before .before .before in
     let l = c .before .before .before .loop in
     let new = ap (cost-at (s .args .n) (s .args .costs .now) (l .row)) (c .before .find-first-star-in-row .ensures) in
-    added _ (l .sum) (l .row) _ (l .inv .2) new (omega arith) (λ i h. s .pre .4 i (omega arith))
+    added _ (l .sum) (l .row) _ (l .inv .2) new (omega arith) (λ i h. s .pre .3 i (omega arith) .1)
 
 cast-columns : tie.Need-cast-columns Inv-loop μ-loop
 cast-columns c = let s = star c in omega arith

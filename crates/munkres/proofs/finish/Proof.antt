@@ -1,10 +1,17 @@
--- `finish` meets its contract at each end, and elsewhere.
-use mathlib.Core.Path.{refl, ap, _∙_}
+-- `finish` meets its contract: at a pairing, where none exists, and at the one end that is left.
+use mathlib.Core.Path.{ap, _∙_}
+use mathlib.Core.Logic.{_≢_, inl, inr}
+use mathlib.Core.List.{[], _∷_}
+use Prim.Native.Nat.{ℕ}
+use types.Run.{OneOf}
+use denote.Enum.Declared.{tagOf}
+use native.Mathlib.Omega.{arith}
+use Rattle.munkres.proofs.Next.{the-type}
 use mir.Syntax.{w64}
 use mir.Facts.{toZ-ofZ}
-use Rattle.munkres.specs.View.{view-next}
-use Rattle.munkres.proofs.CallLaws.{given-paired, given-blocked, given-there}
 use borrow.Author.Needs.{needs}
+use Rattle.munkres.specs.View.{view-next}
+use Rattle.munkres.proofs.CallLaws.{given-paired, given-blocked, given-spent}
 use Rattle.munkres.proofs.finish.Statement.{statement}
 use Rattle.munkres.proofs.finish.Tie as tie
 
@@ -14,8 +21,7 @@ enum-told c = search needs
 choose-columns-requires : tie.Need-choose-columns-requires
 choose-columns-requires c κs =
     let p = c .before .before .before .before .before .pre in
-    let h = p .4 (ap view-next (c .before .enum-told .given .1)) in
-    (p .0, p .1, p .2, (λ i hi. h i hi .0), λ i hi. h i hi .1)
+    (p .costs-square, p .marks-square, p .lines, p .stars (ap view-next (c .before .enum-told .given .1)))
 
 answer-requires : tie.Need-answer-requires
 answer-requires c κs = search needs
@@ -32,64 +38,40 @@ uncovered-lines-requires-2 c κs = search needs
 answer-requires-2 : tie.Need-answer-requires-2
 answer-requires-2 c κs = search needs
 
-enum-told-3 : tie.Need-enum-told-3
-enum-told-3 c = search needs
-
 answer-requires-3 : tie.Need-answer-requires-3
 answer-requires-3 c κs = search needs
-
-enum-told-4 : tie.Need-enum-told-4
-enum-told-4 c = search needs
-
-answer-requires-4 : tie.Need-answer-requires-4
-answer-requires-4 c κs = search needs
-
-enum-told-5 : tie.Need-enum-told-5
-enum-told-5 c = search needs
-
-answer-requires-5 : tie.Need-answer-requires-5
-answer-requires-5 c κs = search needs
-
-enum-told-6 : tie.Need-enum-told-6
-enum-told-6 c = search needs
-
-answer-requires-6 : tie.Need-answer-requires-6
-answer-requires-6 c κs = search needs
-
-enum-told-7 : tie.Need-enum-told-7
-enum-told-7 c = search needs
-
-answer-requires-7 : tie.Need-answer-requires-7
-answer-requires-7 c κs = search needs
 
 same-length : tie.Need-same-length
 same-length c = search needs
 
 returns : tie.Need-returns
 returns c =
-    given-paired _ _ _ _ _ (c .before .before .before .before .before .enum-told .given .1) (c .before .before .before .choose-columns .ensures .0)
-    (toZ-ofZ {w = w64} (record { sfits = c .before .before .before .choose-columns .ok }) ∙ c .before .before .before .choose-columns .ensures .1)
+    let chosen = c .before .before .before in
+    let paired = chosen .before .before in
+    given-paired _ _ _ _ _ (paired .enum-told .given .1) (chosen .choose-columns .ensures .0)
+    (toZ-ofZ {w = w64} (record { sfits = chosen .choose-columns .ok }) ∙ chosen .choose-columns .ensures .1)
     (c .answer .ensures)
 
 returns-2 : tie.Need-returns-2
 returns-2 c =
-    given-blocked _ _ _ _ _ (c .before .before .before .enum-told2 .given .1) (c .before .before .uncovered-lines .ensures)
-    (c .before .uncovered-lines2 .ensures) (c .answer2 .ensures)
+    let columns = c .before in
+    let rows = columns .before in
+    given-blocked _ _ _ _ _ (rows .before .enum-told2 .given .1) (rows .uncovered-lines .ensures) (columns .uncovered-lines2 .ensures) (c .answer2 .ensures)
+
+-- the tag of any other variant than a pairing's and no pairing's
+other-tag : (k : ℕ) → OneOf (0 ∷ 1 ∷ 2 ∷ 3 ∷ 6 ∷ []) k → (k ≢ 4) × (k ≢ 5)
+other-tag k (inl a) = (λ e. omega arith, λ e. omega arith)
+other-tag k (inr (inl a)) = (λ e. omega arith, λ e. omega arith)
+other-tag k (inr (inr (inl a))) = (λ e. omega arith, λ e. omega arith)
+other-tag k (inr (inr (inr (inl a)))) = (λ e. omega arith, λ e. omega arith)
+other-tag k (inr (inr (inr (inr a)))) = (λ e. omega arith, λ e. omega arith)
 
 returns-3 : tie.Need-returns-3
-returns-3 c = given-there _ _ _ _ _ _ (c .before .enum-told3 .given .1) (refl, c .answer3 .ensures)
-
-returns-4 : tie.Need-returns-4
-returns-4 c = given-there _ _ _ _ _ _ (c .before .enum-told4 .given .1) (refl, c .answer4 .ensures)
-
-returns-5 : tie.Need-returns-5
-returns-5 c = given-there _ _ _ _ _ _ (c .before .enum-told5 .given .1) (refl, c .answer5 .ensures)
-
-returns-6 : tie.Need-returns-6
-returns-6 c = given-there _ _ _ _ _ _ (c .before .enum-told6 .given .1) (refl, c .answer6 .ensures)
-
-returns-7 : tie.Need-returns-7
-returns-7 c = given-there _ _ _ _ _ _ (c .before .enum-told7 .given .1) (refl, c .answer7 .ensures)
+returns-3 c =
+    let start = c .before .before .before .before in
+    let other = other-tag _ (c .before .match .keys3) in
+    given-spent _ _ _ _ _ (start .args .run .next) (start .pre .ended)
+    (λ e. other .0 (ap (tagOf the-type) e)) (λ e. other .1 (ap (tagOf the-type) e)) (c .answer3 .ensures)
 
 pub finish-spec : {M : Type 1} → statement M
 finish-spec =
@@ -102,21 +84,8 @@ finish-spec =
     uncovered-lines-requires
     uncovered-lines-requires-2
     answer-requires-2
-    enum-told-3
     answer-requires-3
-    enum-told-4
-    answer-requires-4
-    enum-told-5
-    answer-requires-5
-    enum-told-6
-    answer-requires-6
-    enum-told-7
-    answer-requires-7
     same-length
     returns
     returns-2
-    returns-3
-    returns-4
-    returns-5
-    returns-6
-    returns-7)
+    returns-3)

@@ -3,7 +3,7 @@ use native.Mathlib.Omega.{arith}
 use mathlib.Core.Path.{sym, _∙_}
 use Rattle.steps.specs.Lent.{allows}
 use Rattle.steps.specs.Steps.{machine}
-use Rattle.steps.proofs.Settles.{left}
+use Rattle.steps.specs.Bounds.{left}
 use Rattle.munkres.specs.View.{view}
 use Rattle.munkres.proofs.Arms.{Coming, coming-here, coming-next, coming-falls, came}
 use Rattle.munkres.proofs.run_steps.Statement.{statement}

@@ -1,6 +1,6 @@
 -- `step` meets its contract: each arm is one step's own equation (`Arms`).
 use mathlib.Core.Path.{ap}
-use Rattle.steps.proofs.Runs.{over}
+use Rattle.steps.specs.Counts.{over}
 use Rattle.munkres.specs.View.{view-next}
 use Rattle.munkres.proofs.GoodLaws.{square-mask, square-working, square-marks, at-step3, at-step4, at-step5, at-path, at-step6}
 use Rattle.munkres.proofs.Arms.{arm-3, arm-4, arm-5, arm-6, arm-end}
@@ -37,7 +37,7 @@ enum-told-3 c = search needs
 step-6-requires : tie.Need-step-6-requires
 step-6-requires c κs = let g = c .before .before .before .before .before .before .before .pre in
     let e = ap view-next (c .before .before .before .enum-told3 .given .1) in
-    (square-mask g, square-working g, g .fresh .shape .row-prices, g .fresh .shape .column-prices, g .spare, at-step6 g e, g .some, g .flags)
+    (square-mask g, square-working g, g .going .shape .row-prices, g .going .shape .column-prices, g .spare, at-step6 g e, g .some, g .flags)
 
 enum-told-4 : tie.Need-enum-told-4
 enum-told-4 c = search needs

@@ -17,7 +17,7 @@ use Rattle.lines.proofs.Walks.{Walk, Passes, Met, walk-begin, walk-meets, walk-
 use Rattle.steps.specs.Lent.{allows}
 use Rattle.steps.specs.Steps.{follow}
 use Rattle.lines.proofs.Bounds.{RowFits, row-fits}
-use Rattle.munkres.proofs.Masks.{allows-is}
+use Rattle.steps.proofs.Masks.{allows-is}
 use Rattle.munkres.proofs.Flags.{product-fits, product-is, follow-flag}
 use Rattle.munkres.proofs.Wide.{back64}
 use Rattle.munkres.proofs.weight_matrix.follow_row.Statement.{statement}

@@ -15,7 +15,7 @@ use Rattle.steps.specs.Lent.{allows}
 use Rattle.munkres.specs.declared.weight_matrix.Least.{Least}
 use Rattle.munkres.specs.Least.{least-from}
 use Rattle.lines.proofs.Bounds.{RowFits, row-fits}
-use Rattle.munkres.proofs.Masks.{allows-yes, allows-no}
+use Rattle.steps.proofs.Masks.{allows-yes, allows-no}
 use Rattle.munkres.proofs.Wide.{back64}
 use Rattle.munkres.proofs.Values.{from-take, from-skip}
 use Rattle.munkres.proofs.weight_matrix.least_in_row.Statement.{statement}

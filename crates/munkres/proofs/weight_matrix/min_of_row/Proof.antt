@@ -4,13 +4,13 @@ use mathlib.Core.Path.{_≡_, _∙_}
 use Prim.Native.Nat.{ℕ, _-_, _≤_}
 use native.Mathlib.Omega.{arith}
 use lib.IntN.{ℤ}
-use Rattle.lines.proofs.Signed.{Within}
+use Rattle.lines.specs.Bounds.{Within}
 use Rattle.lines.proofs.Tests.{cases}
 use Rattle.steps.specs.Lent.{allows, cost-at}
 use Rattle.munkres.specs.Least.{least-from}
 use Rattle.munkres.specs.declared.weight_matrix.Least.the-variants.{Value, Nothing}
 use Rattle.lines.proofs.Bounds.{RowFits, row-fits}
-use Rattle.munkres.proofs.Masks.{allows-yes, allows-no}
+use Rattle.steps.proofs.Masks.{allows-yes, allows-no}
 use Rattle.munkres.proofs.Wide.{wide-fits, wide-back, wide-within}
 use Rattle.munkres.proofs.Values.{from-take, from-skip, lesser-holds}
 use Rattle.munkres.proofs.weight_matrix.min_of_row.Statement.{statement}

@@ -1,7 +1,7 @@
 -- `pair_case` meets its contract, by the room that is lent and by what the file says.
 use mathlib.Core.Path.{sym, _∙_}
 use borrow.Author.Tests.{not-true, not-false}
-use Rattle.munkres.specs.View.{buffers}
+use Rattle.steps.specs.Lent.{buffers}
 use Rattle.storm_case.proofs.PairLaws.{pair-crowded, pair-unread, pair-asks, pair-solved}
 use borrow.Author.Needs.{needs}
 use Rattle.storm_case.proofs.pair.pair_case.Statement.{statement}

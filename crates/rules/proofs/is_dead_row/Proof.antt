@@ -1,4 +1,4 @@
--- `refusal::is_dead_row` meets its contract: no cell that the loop passed is allowed.
+-- `is_dead_row` meets its contract: no cell that the loop passed is allowed.
 use mathlib.Core.Path.{sym, ap}
 use mathlib.Core.Bool.{not}
 use Prim.Native.Nat.{ℕ, _+_, _-_, _*_, _<_}
@@ -9,9 +9,9 @@ use Rattle.lines.proofs.Loops.{Missed, missed-none, missed-more, hit-any, misse
 use Rattle.lines.proofs.Squares.{place-lt}
 use Rattle.steps.specs.Lent.{allows}
 use Rattle.steps.specs.Refusal.{dead-row}
-use Rattle.munkres.proofs.Masks.{allows-yes, allows-no}
-use Rattle.munkres.proofs.refusal.is_dead_row.Statement.{statement}
-use Rattle.munkres.proofs.refusal.is_dead_row.Tie as tie
+use Rattle.steps.proofs.Masks.{allows-yes, allows-no}
+use Rattle.rules.proofs.is_dead_row.Statement.{statement}
+use Rattle.rules.proofs.is_dead_row.Tie as tie
 
 abbrev Inv-loop : tie.InvT-loop
 Inv-loop n mask row start column₀ column = Missed (allows n mask row) column

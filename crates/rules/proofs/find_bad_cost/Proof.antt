@@ -1,4 +1,4 @@
--- `refusal::find_bad_cost` meets its contract: each cell that the loop passed is forbidden, or its cost is in range.
+-- `find_bad_cost` meets its contract: each cell that the loop passed is forbidden, or its cost is in range.
 use mathlib.Core.Path.{sym, _∙_}
 use mathlib.Core.Logic.{⊎-elim}
 use Prim.Native.Nat.{_-_, _≤_}
@@ -11,9 +11,9 @@ use mir.Syntax.{w32}
 use mir.Val.{SFits}
 use Rattle.lines.proofs.Loops.{Missed, missed-none, missed-more, missed-hit, missed-end}
 use Rattle.steps.specs.Refusal.{bad-cost}
-use Rattle.munkres.proofs.Masks.{cost-bad, cost-good, cost-unread}
-use Rattle.munkres.proofs.refusal.find_bad_cost.Statement.{statement}
-use Rattle.munkres.proofs.refusal.find_bad_cost.Tie as tie
+use Rattle.steps.proofs.Masks.{cost-bad, cost-good, cost-unread}
+use Rattle.rules.proofs.find_bad_cost.Statement.{statement}
+use Rattle.rules.proofs.find_bad_cost.Tie as tie
 
 abbrev Inv-loop : tie.InvT-loop
 Inv-loop costs mask place₀ place = (place ≤ length mask) × Missed (bad-cost costs mask) place

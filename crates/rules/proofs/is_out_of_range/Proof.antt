@@ -1,8 +1,8 @@
--- `refusal::is_out_of_range` meets its contract.
+-- `is_out_of_range` meets its contract.
 use mir.Facts.{toZ-ofZ}
 use Rattle.steps.specs.Refusal.{out-of-range}
-use Rattle.munkres.proofs.refusal.is_out_of_range.Statement.{statement}
-use Rattle.munkres.proofs.refusal.is_out_of_range.Tie as tie
+use Rattle.rules.proofs.is_out_of_range.Statement.{statement}
+use Rattle.rules.proofs.is_out_of_range.Tie as tie
 
 returns : tie.Need-returns
 unfolding out-of-range

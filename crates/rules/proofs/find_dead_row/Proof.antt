@@ -1,11 +1,11 @@
--- `refusal::find_dead_row` meets its contract: each row that the loop passed has an allowed cell.
+-- `find_dead_row` meets its contract: each row that the loop passed has an allowed cell.
 use mathlib.Core.Path.{sym, _∙_}
 use Prim.Native.Nat.{_-_}
 use borrow.Author.Needs.{needs}
 use Rattle.lines.proofs.Loops.{Missed, missed-none, missed-more, missed-hit, missed-all}
 use Rattle.steps.specs.Refusal.{dead-row}
-use Rattle.munkres.proofs.refusal.find_dead_row.Statement.{statement}
-use Rattle.munkres.proofs.refusal.find_dead_row.Tie as tie
+use Rattle.rules.proofs.find_dead_row.Statement.{statement}
+use Rattle.rules.proofs.find_dead_row.Tie as tie
 
 abbrev Inv-loop : tie.InvT-loop
 Inv-loop n mask row₀ row = Missed (dead-row n mask) row

@@ -1,12 +1,12 @@
--- `refusal::find_bad_mask` meets its contract: no byte that the loop passed is above 1.
+-- `find_bad_mask` meets its contract: no byte that the loop passed is above 1.
 use Prim.Native.Nat.{_-_, _≤_}
 use borrow.Author.Needs.{needs}
 use lib.ListN.{length}
 use Rattle.lines.proofs.Loops.{Missed, missed-none, missed-more, missed-hit, missed-end}
 use Rattle.steps.specs.Refusal.{bad-mask}
-use Rattle.munkres.proofs.Masks.{mask-bad, mask-good}
-use Rattle.munkres.proofs.refusal.find_bad_mask.Statement.{statement}
-use Rattle.munkres.proofs.refusal.find_bad_mask.Tie as tie
+use Rattle.steps.proofs.Masks.{mask-bad, mask-good}
+use Rattle.rules.proofs.find_bad_mask.Statement.{statement}
+use Rattle.rules.proofs.find_bad_mask.Tie as tie
 
 abbrev Inv-loop : tie.InvT-loop
 Inv-loop mask place₀ place = (place ≤ length mask) × Missed (bad-mask mask) place
