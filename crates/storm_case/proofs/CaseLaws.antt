@@ -1,13 +1,13 @@
 -- What the reader gives back, by the verdict of the code's scan; an accepted file's scan is full.
 use mathlib.Core.Path.{_≡_, sym, ap, _∙_}
-use mathlib.Core.Logic.{_≢_}
+use mathlib.Core.Bool.{true, false}
 use mathlib.Core.List.{List, _++_}
 use Prim.Native.Nat.{ℕ, _+_, _*_, _≤_, _<_}
 use native.Mathlib.Omega.{arith}
 use lib.IntN.{ℤ}
 use lib.ListN.{length, getD, take, drop}
 use lib.Seq.{getD-take}
-use borrow.Author.Tests.{lt-ltb, le-ltb, eq-eqb, ne-eqb}
+use borrow.Author.Tests.{lt-ltb, le-ltb}
 use Rattle.lines.specs.Square.{square}
 use Rattle.storm_case.specs.declared.Case.{Case}
 use Rattle.storm_case.specs.declared.Hut.the-variants.{At, Absent}
@@ -17,8 +17,8 @@ use Rattle.storm_case.specs.declared.scan.Scan.{Scan}
 use Rattle.storm_case.specs.Numbers.{u16-at}
 use Rattle.storm_case.specs.Scan as D
 use Rattle.storm_case.specs.View.{view-scan, view-judged, Agrees, Fillable}
-use Rattle.storm_case.specs.Case.{hut-of, pair-cost, mask-byte, filled, case, case-of, read, hut-in, hut}
-use Rattle.storm_case.proofs.Fronts.{cells-fit, front-long}
+use Rattle.storm_case.specs.Case.{hut-of, pair-cost, mask-byte, filled, case, case-of, has-cells, read, hut-in, hut}
+use Rattle.storm_case.proofs.Fronts.{cells-fit, Front, front-of, cells-are}
 use Rattle.storm_case.proofs.ScanLaws.{accepted-filled}
 use Rattle.storm_case.proofs.ViewLaws.{rows-taken, columns-taken}
 
@@ -35,37 +35,33 @@ module _ (file : List ℕ) {s : Scan} {fragments events : List ℕ} (agrees : Ag
       (sym (rows-taken (agrees .ready)) ∙ a .rows, sym (columns-taken (agrees .ready)) ∙ a .columns)
 
   -- a square of n rows has its room in the front of a buffer
-  pub cells-room : s .n * s .n ≤ 4096
-  cells-room = cells-fit (agrees .ready .small)
+  pub cells-front : {A : Type 0} (xs : List A) → length xs ≡ 4096 → Front (s .n * s .n) xs
+  cells-front xs l = front-of (cells-fit (agrees .ready .small)) l
 
-  pub front-room : {A : Type 0} (xs : List A) → length xs ≡ 4096 → length (take (s .n * s .n) xs) ≡ s .n * s .n
-  front-room xs l = sym (front-long xs l cells-room)
-
-  pub fillable : {A B : Type 0} (costs : List A) (mask : List B) → s .judged ≡ Accepted → length costs ≡ 4096 → length mask ≡ 4096
+  pub fillable : {A B : Type 0} (costs : List A) (mask : List B) → s .judged ≡ Accepted → has-cells (length costs) (length mask) ≡ true
       → Fillable file s fragments events (take (s .n * s .n) costs) (take (s .n * s .n) mask)
-  fillable costs mask e lc lm = let a = all-read e in record {
-    ready = agrees .ready;
-    all-rows = a .0;
-    all-columns = a .1;
-    costs-long = front-room costs lc;
-    mask-long = front-room mask lm;
-  }
+  fillable costs mask e room =
+      let a = all-read e in
+      let long = cells-are _ _ room in
+      record {
+        ready = agrees .ready;
+        all-rows = a .0;
+        all-columns = a .1;
+        costs-long = sym (cells-front costs (long .0) .long);
+        mask-long = sym (cells-front mask (long .1) .long);
+      }
 
 -- ---- what the reader gives back
 
-module _ (file : List ℕ) (costs : List ℤ) (mask : List ℕ) {r : Case} where
-  pub no-cost-room : length costs ≢ 4096 → r ≡ case 20 0 0 0 → (r, costs, mask) ≡ read file costs mask
-  unfolding read
-  no-cost-room ne q = rw (q, ne-eqb (length costs) 4096 ne)
+pub no-room : (file : List ℕ) (costs : List ℤ) (mask : List ℕ) {r : Case} → has-cells (length costs) (length mask) ≡ false → r ≡ case 20 0 0 0
+    → (r, costs, mask) ≡ read file costs mask
+unfolding read
+no-room file costs mask none q = rw (q, none)
 
-  pub no-mask-room : length costs ≡ 4096 → length mask ≢ 4096 → r ≡ case 20 0 0 0 → (r, costs, mask) ≡ read file costs mask
-  unfolding read
-  no-mask-room lc ne q = rw (q, eq-eqb (length costs) 4096 lc, ne-eqb (length mask) 4096 ne)
-
-module _ (file : List ℕ) (costs : List ℤ) (mask : List ℕ) (lc : length costs ≡ 4096) (lm : length mask ≡ 4096) where
+module _ (file : List ℕ) (costs : List ℤ) (mask : List ℕ) (room : has-cells (length costs) (length mask) ≡ true) where
   read-judged : (j : D.Judged) → D.judged file ≡ j → read file costs mask ≡ case-of file costs mask j
   unfolding read
-  read-judged j e = rw (e, eq-eqb (length costs) 4096 lc, eq-eqb (length mask) 4096 lm)
+  read-judged j e = rw (e, room)
 
   module _ {s : Scan} {fragments events : List ℕ} (agrees : Agrees file (D.judged file) s fragments events) where
     pub read-more : {r : Case} → s .judged ≡ More → r ≡ case 21 (s .at) 0 0 → (r, costs, mask) ≡ read file costs mask

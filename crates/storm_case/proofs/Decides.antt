@@ -1,6 +1,6 @@
 -- The first bytes of a file decide: cut at 1,040 bytes or more, so at 4,096, it is judged, read and answered as the whole file is.
 use mathlib.Core.Path.{_≡_, refl, sym, subst, _∙_}
-use mathlib.Core.Bool.{Bool, cond, _&&_}
+use mathlib.Core.Bool.{Bool, cond}
 use mathlib.Core.List.{List, [], _∷_}
 use Prim.Native.Nat.{ℕ, zero, suc, _+_, _*_, _≤_, _<_, min}
 use native.Mathlib.Omega.{arith}
@@ -15,7 +15,7 @@ use Rattle.records.specs.Records.{found}
 use Rattle.records.proofs.Cuts.{cut-found}
 use Rattle.storm_case.specs.Numbers.{u16-at, u32-at}
 use Rattle.storm_case.specs.Scan as D
-use Rattle.storm_case.specs.Case.{case, case-of, read, hut-in, hut}
+use Rattle.storm_case.specs.Case.{case, case-of, has-cells, read, hut-in, hut}
 use Rattle.storm_case.proofs.OneRecord.{Does, refuses, sizes, adds-row, adds-column, ends, record-does}
 use Rattle.storm_case.proofs.ScanLaws.{stays-refused, stays-accepted, never-more}
 
@@ -171,7 +171,7 @@ module _ (k : ℕ) (b : 1040 ≤ k) (file : List ℕ) where
   cut-read costs mask = rw (cut-judged k b file) (go (D.judged file) refl)
     where
       room : Bool
-      room = eqb (length costs) 4096 && eqb (length mask) 4096
+      room = has-cells (length costs) (length mask)
 
       go : (j : D.Judged) → D.judged file ≡ j
           → cond room (case-of (take k file) costs mask j) (case 20 0 0 0, costs, mask)

@@ -4,7 +4,6 @@ use mathlib.Core.Logic.{_↔_}
 use mathlib.Core.Bool.{Bool, true, cond, not, _&&_}
 use mathlib.Core.List.{List}
 use Prim.Native.Nat.{ℕ, _+_, _-_, _*_, _≤_, _<_}
-use native.Mathlib.Nat.{mul-le-mul}
 use native.Mathlib.Omega.{arith}
 use lib.Dec.{T, not-T, eqb, eqb→eq, ltb, nltb→le}
 use lib.IntN.{ℤ, pos}
@@ -18,9 +17,10 @@ use Rattle.storm_case.specs.declared.Case.{Case}
 use Rattle.storm_case.specs.declared.Hut.the-variants.{At, Absent}
 use Rattle.storm_case.specs.Numbers.{AreBytes}
 use Rattle.storm_case.specs.Scan as D
-use Rattle.storm_case.specs.Case.{clock-error, may-pair, pair-cost, mask-byte, filled, case, case-of, read, hut-in, hut}
+use Rattle.storm_case.specs.Case.{clock-error, may-pair, pair-cost, mask-byte, filled, case, case-of, has-cells, read, hut-in, hut}
 use Rattle.storm_case.specs.Format.{Fragment, Event, Line, encode, WellFormed, IsCase, row-at, column-at, Matches}
 use Rattle.storm_case.specs.Format.{Allowed, PairIs, ReadAs}
+use Rattle.storm_case.proofs.Fronts.{cells-fit}
 use Rattle.storm_case.proofs.ScanLaws.{never-more}
 use Rattle.storm_case.proofs.Decides.{refused-early}
 use Rattle.storm_case.proofs.FormatLaws.{accepted-exactly, well-formed-accepted}
@@ -93,18 +93,15 @@ module _ {n window : ℕ} {lines : List Line} (h : WellFormed n window lines) wh
 
   module _ (costs : List ℤ) (mask : List ℕ) (lc : length costs ≡ 4096) (lm : length mask ≡ 4096) where
     answer-is : read file costs mask ≡ (case 0 0 n window, filled n (pair-cost file scan) costs, filled n (mask-byte file scan) mask)
-    unfolding read case-of
+    unfolding read has-cells case-of
     answer-is =
         rw (eq-eqb (length costs) 4096 lc, eq-eqb (length mask) 4096 lm, well-formed-accepted h .verdict)
         (ap₂ (λ a b. (case 0 0 a b, filled a (pair-cost file scan) costs, filled a (mask-byte file scan) mask)) (matches .size) (matches .window-is))
 
-    cells-fit : n * n ≤ 4096
-    cells-fit = mul-le-mul (h .small) (h .small)
-
     pub case-read : ReadAs n window lines costs mask (read file costs mask)
     case-read =
-        let fc : n * n ≤ length costs = omega (arith, cells-fit) in
-        let fm : n * n ≤ length mask = omega (arith, cells-fit) in
+        let fc : n * n ≤ length costs = omega (arith, cells-fit (h .small)) in
+        let fm : n * n ≤ length mask = omega (arith, cells-fit (h .small)) in
         subst (ReadAs n window lines costs mask) (sym answer-is) (record {
           case-is = refl;
           pair-is = λ i j hi hj. rw (
@@ -134,7 +131,7 @@ module _ (file : List ℕ) (bytes : AreBytes file) (costs : List ℤ) (mask : Li
   zero-accepted (D.accepted s) e z = accepted-exactly file bytes .0 (s, e)
 
   pub read-exactly : (read file costs mask .0 .number ≡ 0) ↔ IsCase file
-  unfolding read
+  unfolding read has-cells
   read-exactly = (
     λ z. zero-accepted (D.judged file) refl (rw (eq-eqb (length costs) 4096 lc, eq-eqb (length mask) 4096 lm) at z),
     λ c. ap (λ (l : List ℕ). read l costs mask .0 .number) (c .written)

@@ -1,6 +1,6 @@
 // The case reader: the judgement of a case file, the costs and mask that it says, the hut of a row, and its fragments paired with its events.
 ghost use mathlib.Core.Path.{_≡_};
-ghost use Rattle.storm_case.specs.Case.{case, read, hut as Case·hut};
+ghost use Rattle.storm_case.specs.Case.{case, has-cells, read, hut as Case·hut};
 
 mod cells;
 mod judgement;
@@ -41,14 +41,21 @@ fn refused(number: u32, place: usize) -> Case
     }
 }
 
+// Exactly 4,096 costs and 4,096 mask bytes?
+fn has_cells(costs: usize, mask: usize) -> bool
+    ensures { λ r. ⌜ r ≡ has-cells costs mask ⌝ }
+{
+    if costs != 4096 {
+        return false;
+    }
+    mask == 4096
+}
+
 // Reads a file into room for 4,096 costs and 4,096 mask bytes.
 pub fn read_case(file: &[u8], costs: &mut [i32], mask: &mut [u8]) -> Case
     ensures { λ r. ⌜ (r, now (costs .exit), now (mask .exit)) ≡ read (now (file .entry)) (now (costs .entry)) (now (mask .entry)) ⌝ }
 {
-    if costs.len() != 4096 {
-        return refused(20, 0);
-    }
-    if mask.len() != 4096 {
+    if !has_cells(costs.len(), mask.len()) {
         return refused(20, 0);
     }
     let mut fragments = [0usize; 64];
