@@ -12,16 +12,16 @@ use Rattle.price_list.proofs.list.put_allowed_of.Statement.{statement}
 use Rattle.price_list.proofs.list.put_allowed_of.Tie as tie
 
 mul-place : tie.Need-mul-place
-mul-place c = let s = c .before in omega (arith, cell-place _ _ _ (s .pre))
+mul-place c = let s = c .before in omega (arith, cell-place (s .pre))
 
 add-place : tie.Need-add-place
-add-place c = let s = c .before in omega (arith, cell-place _ _ _ (s .pre))
+add-place c = let s = c .before in omega (arith, cell-place (s .pre))
 
 mul-difference : tie.Need-mul-difference
-mul-difference c = let s = c .before in omega (arith, cell-place _ _ _ (s .pre))
+mul-difference c = let s = c .before in omega (arith, cell-place (s .pre))
 
 element-copy-out-difference : tie.Need-element-copy-out-difference
-element-copy-out-difference c = let s = c .before in omega (arith, cell-place _ _ _ (s .pre))
+element-copy-out-difference c = let s = c .before in omega (arith, cell-place (s .pre))
 
 cast-difference : tie.Need-cast-difference
 cast-difference c = search (wide-fits, needs)
@@ -39,10 +39,10 @@ element-copy-out-put-allowed-2 : tie.Need-element-copy-out-put-allowed-2
 element-copy-out-put-allowed-2 c = search needs
 
 mul-put-allowed-3 : tie.Need-mul-put-allowed-3
-mul-put-allowed-3 c = let s = c .before .before .before .before .before in omega (arith, cell-place _ _ _ (s .pre))
+mul-put-allowed-3 c = let s = c .before .before .before .before .before in omega (arith, cell-place (s .pre))
 
 element-copy-out-put-allowed-3 : tie.Need-element-copy-out-put-allowed-3
-element-copy-out-put-allowed-3 c = let s = c .before .before .before .before .before in omega (arith, cell-place _ _ _ (s .pre))
+element-copy-out-put-allowed-3 c = let s = c .before .before .before .before .before in omega (arith, cell-place (s .pre))
 
 put-allowed-requires : tie.Need-put-allowed-requires
 put-allowed-requires c κs = search needs
