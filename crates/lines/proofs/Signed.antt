@@ -155,6 +155,12 @@ pub ruleset signed = (arith, le-parts, ltZ-parts, nltZ-parts, eq-parts, parts-le
 pub within-zero : (L : ℕ) → Within L (pos 0)
 within-zero L = record { above = omega (signed, neg-parts (pos L)); below = omega signed }
 
+pub within-neg : {L : ℕ} {z : ℤ} → Within L z → Within L (negℤ z)
+within-neg {L} {z} b = record {
+  above = omega (signed, b .below, neg-parts z, neg-parts (pos L));
+  below = omega (signed, b .above, neg-parts z, neg-parts (pos L));
+}
+
 -- what is within a small bound fits its width
 pub within-fits : {L : ℕ} {z : ℤ} (w : Width) → Within L z → L < 2 ^ hbits w → SFits w z
 within-fits {L} {z} w b h = omega (signed, b .above, b .below, neg-parts (pos L))

@@ -36,11 +36,11 @@ use Rattle.rules.proofs.Rooms.{Room, room-of}
 use Rattle.rules.specs.declared.Verdict.{Verdict}
 use Rattle.rules.specs.declared.Verdict.the-variants.{Dead}
 use Rattle.rules.specs.View.{view-verdict}
-use Rattle.munkres.specs.declared.Next.{Next}
-use Rattle.munkres.specs.declared.Next.the-variants.{Step3, Step4, Step5, Step6, Paired, NoPairing, Unfinished}
+use Rattle.munkres.specs.declared.run.Next.{Next}
+use Rattle.munkres.specs.declared.run.Next.the-variants.{Step3, Step4, Step5, Step6, Paired, NoPairing, Unfinished}
 use Rattle.munkres.specs.View.{view-next}
-use Rattle.munkres.specs.Square.{Square, Flags}
-use Rattle.munkres.specs.Good.{Startable, Finishes, Good, Came}
+use Rattle.munkres.specs.Square.{InWord, Flags}
+use Rattle.munkres.specs.Good.{ForStart, Finishes, Good, Came}
 
 -- ---- what an end gives back
 
@@ -81,19 +81,18 @@ module _ (n : ℕ) (costs : List ℤ) (mask : List ℕ) (budget : ℕ) (b : Buff
   room : Room (n * n) n b
   room = room-of (n * n) n b (fit .fit .room)
 
-  square : {A : Type 0} {cells : List A} → length cells ≡ n * n → Square n cells
-  square e = record { small = fit .fit .most; size = e }
+  word : InWord n
+  word = record { some = fit .fit .some; most = fit .fit .most }
 
-  pub start-asks : Square n costs × Square n mask × Square n (b .working) × Square n (b .marks) × (length (b .row-prices) ≡ n) × (length (b .column-prices) ≡ n) × Startable n mask
-  start-asks = (
-    square (fit .fit .costs-length),
-    square (fit .fit .mask-length),
-    square (room .working-cells),
-    square (room .marks-cells),
-    room .row-prices-lines,
-    room .column-prices-lines,
-    fit .rows,
-  )
+  pub start-asks : ForStart n costs mask (b .working) (b .marks) (b .row-prices) (b .column-prices)
+  start-asks = record {
+    grid = record { word = word; mask-square = fit .fit .mask-length; working-square = room .working-cells };
+    costs-square = fit .fit .costs-length;
+    marks-square = room .marks-cells;
+    row-lines = room .row-prices-lines;
+    column-lines = room .column-prices-lines;
+    rows = fit .rows;
+  }
 
   within : (i j : ℕ) → i < n → j < n → T (allows n mask i j) → Within most-cost (cost-at n costs i j)
   within = cost-within 64 t b fit
@@ -107,9 +106,8 @@ module _ (n : ℕ) (costs : List ℤ) (mask : List ℕ) (budget : ℕ) (b : Buff
   good-start e =
       let small : n ≤ 256 = omega (arith, fit .fit .most) in
       rw e record {
-        some = fit .fit .some;
-        small = fit .fit .most;
-        masked = fit .fit .mask-length;
+        word = word;
+        mask-square = fit .fit .mask-length;
         flags = flagged;
         spare = unfold start in omega arith;
         cost = cost-at n costs;
@@ -138,9 +136,9 @@ module _ (n : ℕ) (costs : List ℤ) (mask : List ℕ) (budget : ℕ) (b : Buff
 
   pub finish-asks : {before m : Machine} → Came n mask budget before m → Finishes n costs (m .run .next) (m .marks) (b .columns)
   finish-asks c = record {
-    some = fit .fit .some;
-    costs-square = square (fit .fit .costs-length);
-    marks-square = square (c .good .going .shape .marks);
+    word = word;
+    costs-square = fit .fit .costs-length;
+    marks-square = c .good .going .shape .marks;
     lines = room .columns-lines;
     ended = c .ended;
     stars = λ e i hi. let a = star-allowed (c .good) e i hi in (a .0, within i _ hi (a .0) (a .1));

@@ -22,7 +22,8 @@ use Rattle.lines.proofs.Firsts.{first-is, first-ext, first-none, any-yes}
 use Rattle.lines.proofs.Sets.{ext, has-empty, has-those, has-with, those-lt, with-lt}
 use Rattle.lines.proofs.Squares.{cell-set, length-square, square-all}
 use Rattle.lines.proofs.Loops.{any-more, count-yes, count-no}
-use Rattle.steps.specs.Steps.{Run, Step3, Step4, Paired, run-with, machine, star-in-row, star-in-column, star-columns, star-count, excess, row-price, zero-at, free-zero, star-row, step2, start, step3}
+use Rattle.steps.specs.Steps.{Run, Step4, Paired, run-with, machine, star-in-row, star-in-column, star-columns, star-count, excess, row-price, zero-at, free-zero, star-row, step2, start, step3}
+use Rattle.steps.specs.Outcome.{no-run}
 use Rattle.munkres.specs.Good.{OneStarARow}
 
 -- ---- step 2
@@ -79,12 +80,12 @@ module _ (n : ℕ) (ok : ℕ → ℕ → Bool) (working : List ℤ) where
     taken-skip l = record { size = s .size; made = rw (← free, le-ltb column n l) refl ∙ next; same = s .same }
 
 -- the start, from what each part of it leaves
-pub start-made : (n : ℕ) (ok : ℕ → ℕ → Bool) (cost : ℕ → ℕ → ℤ) (working : List ℤ) (marks : List ℕ) (row-prices column-prices : List ℤ)
-    → working ≡ square (excess n ok cost) n → marks ≡ step2 n ok working (square (λ i j. 0) n) n
+pub start-made : (n : ℕ) (ok : ℕ → ℕ → Bool) (cost : ℕ → ℕ → ℤ) (r : Run) (working : List ℤ) (marks : List ℕ) (row-prices column-prices : List ℤ)
+    → r ≡ no-run → working ≡ square (excess n ok cost) n → marks ≡ step2 n ok working (square (λ i j. 0) n) n
     → row-prices ≡ table (row-price n ok cost) n → column-prices ≡ table (λ j. pos 0) n
-    → machine (run-with 0 0 0 0 0 Step3) working marks row-prices column-prices ≡ start n ok cost
+    → machine r working marks row-prices column-prices ≡ start n ok cost
 unfolding start
-start-made n ok cost working marks row-prices column-prices w m r c = rw (m, w, r, c)
+start-made n ok cost r working marks row-prices column-prices e w m p c = rw (e, m, w, p, c)
 
 -- ---- step 3
 

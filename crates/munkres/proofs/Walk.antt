@@ -16,7 +16,7 @@ use Rattle.steps.specs.Steps.{star-in-column, prime-in-row, path, flip}
 use Rattle.steps.specs.Going.{Ends}
 use Rattle.steps.proofs.Path.{path-last, path-more, Inside, path-inside}
 use Rattle.munkres.specs.Square.{Square}
-use Rattle.munkres.specs.Path.{zipped}
+use Rattle.munkres.specs.Path.{zipped, Walks, Recorded, Flips}
 
 -- ---- recording
 
@@ -49,14 +49,14 @@ some-left n marks zero i j e = absurd e
 some-left n marks (suc k) i j e = (k, refl, e)
 
 pub walked-none : (n : ℕ) (marks : List ℕ) (row column : ℕ) (rows columns : List ℕ)
-    → Square n marks × (length rows ≡ 127) × (length columns ≡ 127) × Ends n marks n row column → Walked n marks row column rows columns 0 row column
+    → Walks n marks row column rows columns → Walked n marks row column rows columns 0 row column
 unfolding zipped
 walked-none n marks row column rows columns p =
-    let s = some-left n marks n row column (p .3) in
+    let s = some-left n marks n row column (p .ends) in
     record {
-      small = p .0 .small;
-      rows-length = p .1;
-      columns-length = p .2;
+      small = p .most;
+      rows-length = p .rows-length;
+      columns-length = p .columns-length;
       left = s .0;
       goes = s .2;
       room = omega (arith, s .1);
@@ -69,14 +69,13 @@ module _ {n : ℕ} {marks : List ℕ} {row column : ℕ} {rows columns : List �
   recorded : zipped (set rows count i) (set columns count j) (suc count) ≡ zipped rows columns count ++ ((i, j) ∷ [])
   recorded = zipped-more rows columns count i j (omega arith) (omega arith)
 
-  pub walked-last : o ≡ n → (zipped (set rows count i) (set columns count j) (count + 1) ≡ path n marks n row column) × (count + 1 < 2 * n)
-      × (length (set rows count i) ≡ 127) × (length (set columns count j) ≡ 127)
-  walked-last e = (
-    rw (add-one, recorded, ← path-last n marks w.left i j (omega arith)) (w .rest),
-    omega arith,
-    simp length-set (w .rows-length),
-    simp length-set (w .columns-length),
-  )
+  pub walked-last : o ≡ n → Recorded n marks row column (set rows count i) (set columns count j) (count + 1)
+  walked-last e = record {
+    whole = rw (add-one, recorded, ← path-last n marks w.left i j (omega arith)) (w .rest);
+    few = omega arith;
+    rows-length = simp length-set (w .rows-length);
+    columns-length = simp length-set (w .columns-length);
+  }
 
   module _ (ne : o ≢ n) where
     below : o < n
@@ -136,9 +135,12 @@ zipped-inside n rows columns (suc k) h x l =
     let s = inside-last n (zipped rows columns k) _ _ h in
     dite (ℕ-discrete x k) (λ e. rw e (s .1)) (λ ne. zipped-inside n rows columns k (s .0) x (omega arith))
 
--- what `find_path` leaves can be flipped: each conjunct is one that `toggle_path` asks
-pub path-recorded : (n : ℕ) (marks rows columns : List ℕ) (k i j : ℕ) → Square n marks → Ends n marks n i j
-    → (zipped rows columns k ≡ path n marks n i j) × (k < 2 * n) × (length rows ≡ 127) × (length columns ≡ 127)
-    → Square n marks × (k ≤ length rows) × (k ≤ length columns) × ((x : ℕ) → x < k → (getD rows x 0 < n) × (getD columns x 0 < n))
-path-recorded n marks rows columns k i j s e f =
-    (s, omega (arith, s .small), omega (arith, s .small), zipped-inside n rows columns k (rw (f .0) (path-inside n marks n i j e)))
+-- what `find_path` leaves can be flipped
+pub path-recorded : (n : ℕ) (marks rows columns : List ℕ) (k i j : ℕ) → n ≤ 64 → Square n marks → Ends n marks n i j → Recorded n marks i j rows columns k
+    → Flips n marks rows columns k
+path-recorded n marks rows columns k i j small s e f = record {
+  marks-square = s;
+  rows-enough = omega (arith, f .few, f .rows-length);
+  columns-enough = omega (arith, f .few, f .columns-length);
+  inside = zipped-inside n rows columns k (rw (f .whole) (path-inside n marks n i j e));
+}

@@ -3,4 +3,5 @@ pub mod View
 pub mod Least
 pub mod Cell
 pub mod Path
+pub mod Prices
 pub mod Good

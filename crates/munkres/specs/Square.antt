@@ -1,4 +1,4 @@
--- What a leaf asks of the squares that it is lent: at most 64 rows, and exactly n * n cells.
+-- What the leaves ask of what they are lent. Only a set in a word bounds n: a square is known by its length.
 use mathlib.Core.Path.{_≡_}
 use mathlib.Core.List.{List}
 use Prim.Native.Nat.{ℕ, _*_, _≤_, _<_}
@@ -7,9 +7,20 @@ use lib.ListN.{length, getD}
 use mir.Syntax.{w64}
 use mir.Val.{SFits}
 
-pub record Square {A : Type 0} (n : ℕ) (cells : List A) : Type 0 where
-  pub small : n ≤ 64
-  pub size : length cells ≡ n * n
+-- exactly n * n cells
+abbrev pub Square : {A : Type 0} → ℕ → List A → Type 0
+Square n cells = length cells ≡ n * n
+
+-- a word has a bit for each of n lines
+pub record InWord (n : ℕ) : Type 0 where
+  pub some : 1 ≤ n
+  pub most : n ≤ 64
+
+-- mask and working values of n rows, and sets of their lines
+pub record Grid (n : ℕ) (mask : List ℕ) (working : List ℤ) : Type 0 where
+  pub word : InWord n
+  pub mask-square : Square n mask
+  pub working-square : Square n working
 
 -- every mask byte is 0 or 1
 abbrev pub Flags : List ℕ → Type 0

@@ -1,8 +1,8 @@
 -- The code's run state as the steps' own.
 use Rattle.steps.specs.Steps as S
-use Rattle.munkres.specs.declared.Next.{Next}
-use Rattle.munkres.specs.declared.Next.the-variants.{Step3, Step4, Step5, Step6, Paired, NoPairing, Unfinished}
-use Rattle.munkres.specs.declared.Run.{Run}
+use Rattle.munkres.specs.declared.run.Next.{Next}
+use Rattle.munkres.specs.declared.run.Next.the-variants.{Step3, Step4, Step5, Step6, Paired, NoPairing, Unfinished}
+use Rattle.munkres.specs.declared.run.Run.{Run}
 
 abbrev pub view-next : Next → S.Next
 view-next Step3 = S.Step3

@@ -2,12 +2,12 @@
 ghost use mathlib.Core.Path.{_≡_};
 ghost use mathlib.Core.Bool.{cond, not, _&&_};
 ghost use mathlib.Core.Logic.{_≢_};
-ghost use Prim.Native.Nat.{_%_, _^_, _<_, _≤_};
+ghost use Prim.Native.Nat.{_%_, _^_, _<_};
 ghost use Rattle.lines.specs.First.{first};
 ghost use Rattle.lines.specs.Sets.{has, with, without, all as all-below, rest};
 ghost use Rattle.steps.specs.Lent.{allows};
 ghost use Rattle.steps.specs.Steps.{zero-at};
-ghost use Rattle.munkres.specs.Square.{Square};
+ghost use Rattle.munkres.specs.Square.{InWord, Grid};
 ghost use Rattle.munkres.specs.Cell.{found-zero};
 use crate::weight_matrix;
 
@@ -40,7 +40,7 @@ pub(crate) fn uncover(lines: u64, line: usize) -> u64
 
 // The first n lines.
 pub(crate) fn all_lines(n: usize) -> u64
-    requires { ⌜ (1 ≤ n) × (n ≤ 64) ⌝ }
+    requires { ⌜ InWord n ⌝ }
     ensures { λ r. ⌜ r ≡ all-below n ⌝ }
 {
     0xffff_ffff_ffff_ffff >> (64 - n)
@@ -48,7 +48,7 @@ pub(crate) fn all_lines(n: usize) -> u64
 
 // The lines below n that are not covered.
 pub(crate) fn uncovered_lines(n: usize, lines: u64) -> u64
-    requires { ⌜ (1 ≤ n) × (n ≤ 64) ⌝ }
+    requires { ⌜ InWord n ⌝ }
     ensures { λ r. ⌜ r ≡ rest n lines ⌝ }
 {
     !lines & all_lines(n)
@@ -56,7 +56,7 @@ pub(crate) fn uncovered_lines(n: usize, lines: u64) -> u64
 
 // The lines below n that are covered, or those that are not.
 pub(crate) fn lines_alike(n: usize, lines: u64, covered: bool) -> u64
-    requires { ⌜ (1 ≤ n) × (n ≤ 64) ⌝ }
+    requires { ⌜ InWord n ⌝ }
     ensures { λ r. ⌜ r ≡ cond covered (lines % 2 ^ n) (rest n lines) ⌝ }
 {
     if covered {
@@ -91,7 +91,7 @@ pub(crate) fn find_zero_in_row(
     taken: u64,
     row: usize,
 ) -> usize
-    requires { ⌜ Square n (now mask) × Square n (now working) × (row < n) ⌝ }
+    requires { ⌜ Grid n (now mask) (now working) × (row < n) ⌝ }
     ensures { λ r. ⌜ r ≡ first (λ j. zero-at n (allows n (now (mask .entry))) (now (working .entry)) row j && not (has taken j)) n ⌝ }
 {
     let start = row * n;
@@ -109,7 +109,7 @@ pub(crate) fn find_zero_in_row(
 
 // The first uncovered row with a zero in the column, or n.
 fn find_zero_in_column(n: usize, mask: &[u8], working: &[i64], rows: u64, column: usize) -> usize
-    requires { ⌜ Square n (now mask) × Square n (now working) × (column < n) ⌝ }
+    requires { ⌜ Grid n (now mask) (now working) × (column < n) ⌝ }
     ensures { λ r. ⌜ r ≡ first (λ i. not (has rows i) && zero-at n (allows n (now (mask .entry))) (now (working .entry)) i column) n ⌝ }
 {
     let mut left = uncovered_lines(n, rows);
@@ -131,7 +131,7 @@ pub(crate) fn find_uncovered_cell_column_row_order(
     rows: u64,
     columns: u64,
 ) -> Cell
-    requires { ⌜ Square n (now mask) × Square n (now working) × (1 ≤ n) ⌝ }
+    requires { ⌜ Grid n (now mask) (now working) ⌝ }
     ensures { λ r. ⌜ r ≡ found-zero n (allows n (now (mask .entry))) (now (working .entry)) rows columns ⌝ }
 {
     let mut left = uncovered_lines(n, columns);

@@ -1,11 +1,8 @@
 // Step 5's path: its places are recorded first, and flipped then.
 ghost use mathlib.Core.Path.{_≡_};
-ghost use Prim.Native.Nat.{ℕ, _*_, _<_, _≤_};
-ghost use lib.ListN.{length, getD};
+ghost use Prim.Native.Nat.{_*_, _<_};
 ghost use Rattle.steps.specs.Steps.{path, flip};
-ghost use Rattle.steps.specs.Going.{Ends};
-ghost use Rattle.munkres.specs.Square.{Square};
-ghost use Rattle.munkres.specs.Path.{zipped};
+ghost use Rattle.munkres.specs.Path.{zipped, Walks, Recorded, Flips};
 use crate::mark_matrix;
 
 // From the prime at (row, column) to the star in its column, to the prime in that star's row, and so on. Returns how many places there are.
@@ -17,8 +14,8 @@ pub(crate) fn find_path(
     rows: &mut [usize],
     columns: &mut [usize],
 ) -> usize
-    requires { ⌜ Square n (now marks) × (length (now rows) ≡ 127) × (length (now columns) ≡ 127) × Ends n (now marks) n row column ⌝ }
-    ensures { λ k. ⌜ (zipped (now (rows .exit)) (now (columns .exit)) k ≡ path n (now (marks .entry)) n row column) × (k < 2 * n) × (length (now (rows .exit)) ≡ 127) × (length (now (columns .exit)) ≡ 127) ⌝ }
+    requires { ⌜ Walks n (now marks) row column (now rows) (now columns) ⌝ }
+    ensures { λ k. ⌜ Recorded n (now (marks .entry)) row column (now (rows .exit)) (now (columns .exit)) k ⌝ }
 {
     let mut count = 0;
     let mut i = row;
@@ -46,8 +43,7 @@ pub(crate) fn toggle_path(
     columns: &[usize],
     count: usize,
 )
-    requires { ⌜ Square n (now marks) × (count ≤ length (now rows)) × (count ≤ length (now columns))
-        × ((k : ℕ) → k < count → (getD (now rows) k 0 < n) × (getD (now columns) k 0 < n)) ⌝ }
+    requires { ⌜ Flips n (now marks) (now rows) (now columns) count ⌝ }
     ensures { λ _. ⌜ now (marks .exit) ≡ flip n (now (marks .entry)) (zipped (now (rows .entry)) (now (columns .entry)) count) ⌝ }
 {
     let mut k = 0;

@@ -12,8 +12,9 @@ ghost use Rattle.lines.specs.Square.{table, square, each-row};
 ghost use Rattle.lines.specs.Sets.{has};
 ghost use Rattle.lines.specs.Bounds.{Within};
 ghost use Rattle.steps.specs.Lent.{allows, cost-at};
-ghost use Rattle.steps.specs.Steps.{is-zero, row-price, excess, uncovered, follow, followed, lowered, raised};
-ghost use Rattle.munkres.specs.Square.{Square, Flags, Fit64};
+ghost use Rattle.steps.specs.Steps.{is-zero, row-price, excess, uncovered, follow, followed};
+ghost use Rattle.munkres.specs.Square.{Square, Grid, Fit64};
+ghost use Rattle.munkres.specs.Prices.{FollowsRow, Follows, shifted};
 ghost use Rattle.munkres.specs.Least.{lesser-of, least-from};
 use crate::coverage;
 
@@ -130,7 +131,7 @@ fn least_in_row(
     row: usize,
     so_far: Least,
 ) -> Least
-    requires { ⌜ Square n (now mask) × Square n (now working) × (row < n) ⌝ }
+    requires { ⌜ Grid n (now mask) (now working) × (row < n) ⌝ }
     ensures { λ r. ⌜ r ≡ least-from «so_far» (λ j. not (has columns j) && allows n (now (mask .entry)) row j) (λ j. getD (now (working .entry)) (row * n + j) (pos 0)) n ⌝ }
 {
     let start = row * n;
@@ -154,7 +155,7 @@ pub(crate) fn least_uncovered(
     rows: u64,
     columns: u64,
 ) -> Least
-    requires { ⌜ Square n (now mask) × Square n (now working) × (1 ≤ n) ⌝ }
+    requires { ⌜ Grid n (now mask) (now working) ⌝ }
     ensures { λ r. ⌜ r ≡ least-from Least.Nothing (λ q. uncovered rows columns (q / n) (q % n) && allows n (now (mask .entry)) (q / n) (q % n)) (λ q. getD (now (working .entry)) q (pos 0)) (n * n) ⌝ }
 {
     let mut least = Least::Nothing;
@@ -189,8 +190,7 @@ fn follow_row(
     change: i64,
     working: &mut [i64],
 )
-    requires { ⌜ Square n (now mask) × Square n (now working) × (row < n) × SFits w64 change
-        × ((j : ℕ) → j < n → T (allows n (now mask) row j) → SFits w64 (follow change covered (has columns j) (getD (now working) (row * n + j) (pos 0)))) × Flags (now mask) ⌝ }
+    requires { ⌜ FollowsRow n (now mask) columns row covered change (now working) ⌝ }
     ensures { λ _. ⌜ now (working .exit) ≡ each-row n row (λ j w. cond (allows n (now (mask .entry)) row j) (follow change covered (has columns j) w) w) (now (working .entry)) ⌝ }
 {
     let start = row * n;
@@ -211,7 +211,7 @@ pub(crate) fn follow_prices(
     change: i64,
     working: &mut [i64],
 )
-    requires { ⌜ Square n (now mask) × Square n (now working) × SFits w64 change × Fit64 (followed n (allows n (now mask)) change rows columns (now working)) × Flags (now mask) ⌝ }
+    requires { ⌜ Follows n (now mask) rows columns change (now working) ⌝ }
     ensures { λ _. ⌜ now (working .exit) ≡ followed n (allows n (now (mask .entry))) change rows columns (now (working .entry)) ⌝ }
 {
     let mut row = 0;
@@ -229,30 +229,16 @@ pub(crate) fn follow_prices(
     }
 }
 
-// The price of each covered row falls.
-pub(crate) fn lower_prices(rows: u64, change: i64, prices: &mut [i64])
-    requires { ⌜ (length (now prices) ≤ 64) × SFits w64 change × Fit64 (lowered change rows (now prices)) ⌝ }
-    ensures { λ _. ⌜ now (prices .exit) ≡ lowered change rows (now (prices .entry)) ⌝ }
+// The prices of a set of lines change.
+pub(crate) fn shift_prices(lines: u64, change: i64, prices: &mut [i64])
+    requires { ⌜ (length (now prices) ≤ 64) × SFits w64 change × Fit64 (shifted change lines (now prices)) ⌝ }
+    ensures { λ _. ⌜ now (prices .exit) ≡ shifted change lines (now (prices .entry)) ⌝ }
 {
-    let mut row = 0;
-    while row < prices.len() {
-        if coverage::is_covered(rows, row) {
-            prices[row] = prices[row] - change;
+    let mut line = 0;
+    while line < prices.len() {
+        if coverage::is_covered(lines, line) {
+            prices[line] = prices[line] + change;
         }
-        row += 1;
-    }
-}
-
-// The price of each uncovered column rises.
-pub(crate) fn raise_prices(columns: u64, change: i64, prices: &mut [i64])
-    requires { ⌜ (length (now prices) ≤ 64) × SFits w64 change × Fit64 (raised change columns (now prices)) ⌝ }
-    ensures { λ _. ⌜ now (prices .exit) ≡ raised change columns (now (prices .entry)) ⌝ }
-{
-    let mut column = 0;
-    while column < prices.len() {
-        if !coverage::is_covered(columns, column) {
-            prices[column] = prices[column] + change;
-        }
-        column += 1;
+        line += 1;
     }
 }

@@ -28,7 +28,7 @@ cover-requires : tie.Need-cover-requires
 cover-requires c κs = let d = dead-inside (c .before) in omega (arith, d .0, d .1)
 
 all-lines-requires : tie.Need-all-lines-requires
-all-lines-requires c κs = let d = dead-inside (c .before .before) in (omega (arith, d .0), d .1)
+all-lines-requires c κs = let d = dead-inside (c .before .before) in record { some = omega (arith, d .0); most = d .1 }
 
 refused-requires-2 : tie.Need-refused-requires-2
 refused-requires-2 c κs = search needs

@@ -11,7 +11,7 @@ shr-result : tie.Need-shr-result
 shr-result c = search needs
 
 returns : tie.Need-returns
-returns c = all-shr 64 (c .args .n) (c .pre .1)
+returns c = all-shr 64 (c .args .n) (c .pre .most)
 
 pub all-lines-spec : {M : Type 1} → statement M
 all-lines-spec = tie.close (tie.spec sub-result shr-result returns)

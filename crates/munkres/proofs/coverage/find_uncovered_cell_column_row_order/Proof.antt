@@ -42,7 +42,7 @@ met : (c : tie.After-lowest-line Inv-loop μ-loop) → let a = c .before .before
     (c .before .before .loop .left) (c .lowest-line .result)
 met c =
     let l = c .before .before in
-    walk-meets 64 (l .before .before .before .pre .0 .small) (c .before .loop-test .taken) (c .lowest-line .ensures) (l .loop .inv)
+    walk-meets 64 (l .before .before .before .pre .word .most) (c .before .loop-test .taken) (c .lowest-line .ensures) (l .loop .inv)
 
 find-zero-in-column-requires : tie.Need-find-zero-in-column-requires Inv-loop μ-loop
 find-zero-in-column-requires c κs = let h = met c .below in search needs

@@ -41,11 +41,11 @@ met : (c : tie.After-lowest-line Inv-loop μ-loop) → let a = c .before .before
     (c .before .before .loop .left) (c .lowest-line .result)
 met c =
     let l = c .before .before in
-    walk-meets 64 (l .before .before .before .pre .0 .small) (c .before .loop-test .taken) (c .lowest-line .ensures) (l .loop .inv)
+    walk-meets 64 (l .before .before .before .pre .0 .word .most) (c .before .loop-test .taken) (c .lowest-line .ensures) (l .loop .inv)
 
 place : (c : tie.After-lowest-line Inv-loop μ-loop) → let a = c .before .before .before .before .before .args in
     c .lowest-line .result * a .n + a .column < a .n * a .n
-place c = let s = c .before .before .before .before .before in place-lt (s .args .n) _ _ (met c .below) (s .pre .2)
+place c = let s = c .before .before .before .before .before in place-lt (s .args .n) _ _ (met c .below) (s .pre .1)
 
 mul-is-element-zero : tie.Need-mul-is-element-zero Inv-loop μ-loop
 mul-is-element-zero c = omega (arith, place c)

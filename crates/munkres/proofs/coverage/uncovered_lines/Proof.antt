@@ -14,7 +14,7 @@ returns : tie.Need-returns
 returns c =
     let b = c .before in
     let a = b .args in
-    ap (bitAnd ((2 ^ 64 - 1) - a .lines)) (c .all-lines .ensures) ∙ not-rest 64 (a .n) (a .lines) (b .fits .lines .fits) (b .pre .1)
+    ap (bitAnd ((2 ^ 64 - 1) - a .lines)) (c .all-lines .ensures) ∙ not-rest 64 (a .n) (a .lines) (b .fits .lines .fits) (b .pre .most)
 
 pub uncovered-lines-spec : {M : Type 1} → statement M
 uncovered-lines-spec = tie.close (tie.spec all-lines-requires returns)

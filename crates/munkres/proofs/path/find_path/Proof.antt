@@ -70,7 +70,7 @@ add-count : tie.Need-add-count Inv-loop μ-loop
 add-count c = search needs
 
 find-first-prime-in-row-requires : tie.Need-find-first-prime-in-row-requires Inv-loop μ-loop
-find-first-prime-in-row-requires c κs = (c .before .before .before .before .before .before .pre .0, room c .0)
+find-first-prime-in-row-requires c κs = (c .before .before .before .before .before .before .pre .marks-square, room c .0)
 
 loop-less : tie.Need-loop-less Inv-loop μ-loop
 loop-less c = search needs

@@ -21,11 +21,11 @@ abbrev μ-loop : tie.MeasureT-loop
 -- the place of the turn is in the square
 place : (c : tie.In-loop Inv-loop μ-loop) → let a = c .before .before .before .before .before .args in let k = c .before .loop .k in
     getD (a .rows .now) k 0 * a .n + getD (a .columns .now) k 0 < a .n * a .n
-place c = let q = c .before .before .before .before .before .pre .3 (c .before .loop .k) (c .loop-test .taken) in place-lt _ _ _ (q .0) (q .1)
+place c = let q = c .before .before .before .before .before .pre .inside (c .before .loop .k) (c .loop-test .taken) in place-lt _ _ _ (q .0) (q .1)
 
 loop-holds : tie.Need-loop-holds Inv-loop μ-loop
 unfolding flip zipped
-loop-holds c = (omega arith, refl, c .before .before .before .pre .0 .size)
+loop-holds c = (omega arith, refl, c .before .before .before .pre .marks-square)
 
 mul-toggle-star : tie.Need-mul-toggle-star Inv-loop μ-loop
 mul-toggle-star c = search needs
@@ -62,7 +62,7 @@ loop-again c = (
 )
 
 same-length : tie.Need-same-length Inv-loop μ-loop
-same-length c = c .before .loop .inv .2 ∙ sym (c .before .before .before .before .before .pre .0 .size)
+same-length c = c .before .loop .inv .2 ∙ sym (c .before .before .before .before .before .pre .marks-square)
 
 returns : tie.Need-returns Inv-loop μ-loop
 returns c = rw (le-antisymm (c .before .loop .inv .0) (c .loop-test .left)) at (c .before .loop .inv .1)

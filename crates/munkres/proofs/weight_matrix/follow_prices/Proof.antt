@@ -37,17 +37,18 @@ follow-row-requires c κs =
     let s = c .before .before .before .before .before in
     let a = s .args in
     let l = c .before .before .before .loop in
-    let m = toZ-ofZ (s .fits .change) in (
-      search needs,
-      record { small = s .pre .1 .small; size = l .inv .1 .rows .long ∙ s .pre .1 .size },
-      search needs,
-      rw m (s .pre .2),
-      λ j h t. rw (m, c .before .is-covered .ensures, rows-next _ _ _ _ _ _ j (l .inv .1))
+    let m = toZ-ofZ (s .fits .change) in
+    let grid = s .pre .grid in
+    record {
+      grid = record { word = grid .word; mask-square = grid .mask-square; working-square = l .inv .1 .rows .long ∙ grid .working-square };
+      flags = s .pre .flags;
+      below = search needs;
+      fits = rw m (s .pre .fits);
+      values = λ j h t. rw (m, c .before .is-covered .ensures, rows-next _ _ _ _ _ _ j (l .inv .1))
           (rw (T-true (allows (a .n) (a .mask .now) (l .row) j) t) at
           (square-fits (a .n) (λ i j w. cond (allows (a .n) (a .mask .now) i j) (follow (a .change) (has (a .rows) i) (has (a .columns) j) w) w) (a .working .now)
-          (s .pre .1 .size) (s .pre .3) (l .row) j (omega arith) h)),
-      s .pre .4,
-    )
+          (grid .working-square) (s .pre .values) (l .row) j (omega arith) h));
+    }
 
 add-row : tie.Need-add-row Inv-loop μ-loop
 add-row c = search needs
@@ -60,7 +61,7 @@ loop-again c =
     let s = c .before .before .before .before .before .before .before in
     let l = c .before .before .before .before .before .loop in
     let k = c .before .before .before .is-covered .ensures in
-    (search needs, rows-more _ _ _ _ _ _ _ _ (s .pre .1 .size) (omega arith) (λ j x. rw k) (c .before .follow-row .ensures) (l .inv .1))
+    (search needs, rows-more _ _ _ _ _ _ _ _ (s .pre .grid .working-square) (omega arith) (λ j x. rw k) (c .before .follow-row .ensures) (l .inv .1))
 
 same-length : tie.Need-same-length Inv-loop μ-loop
 same-length c = search needs
@@ -69,7 +70,7 @@ returns : tie.Need-returns Inv-loop μ-loop
 unfolding followed
 returns c =
     let s = c .before .before .before in
-    rw (toZ-ofZ (s .fits .change)) at (rows-all _ _ _ _ _ _ (s .pre .1 .size) (omega arith) (c .before .loop .inv .1))
+    rw (toZ-ofZ (s .fits .change)) at (rows-all _ _ _ _ _ _ (s .pre .grid .working-square) (omega arith) (c .before .loop .inv .1))
 
 pub follow-prices-spec : {M : Type 1} → statement M
 follow-prices-spec =

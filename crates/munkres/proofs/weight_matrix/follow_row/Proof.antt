@@ -16,7 +16,7 @@ use Rattle.lines.proofs.Rows.{RowPassed, row-none, row-store, row-keep, row-nex
 use Rattle.lines.proofs.Walks.{Walk, Passes, Met, walk-begin, walk-meets, walk-end, alike-lt, alike, unlike}
 use Rattle.steps.specs.Lent.{allows}
 use Rattle.steps.specs.Steps.{follow}
-use Rattle.lines.proofs.Bounds.{RowFits, row-fits}
+use Rattle.lines.proofs.Bounds.{row-end}
 use Rattle.steps.proofs.Masks.{allows-is}
 use Rattle.munkres.proofs.Flags.{product-fits, product-is, follow-flag}
 use Rattle.munkres.proofs.Wide.{back64}
@@ -45,13 +45,13 @@ others n mask columns row covered change before after k h e =
 
 abbrev Inv-loop : tie.InvT-loop
 Inv-loop n mask columns row covered change working₀ start left₀ working left =
-    RowFits n row × Walk n (Alike n columns covered) (Kept n mask columns row covered change working₀ working) left
+    (row * n + n ≤ n * n) × Walk n (Alike n columns covered) (Kept n mask columns row covered change working₀ working) left
 
 abbrev μ-loop : tie.MeasureT-loop
 μ-loop n mask columns row covered change working₀ start left₀ working left = left
 
 mul-start : tie.Need-mul-start Inv-loop μ-loop
-mul-start c = let f = row-fits _ _ (c .before .pre .0 .small) (c .before .pre .2) in omega arith
+mul-start c = let f = row-end _ _ (c .before .pre .below) in omega arith
 
 lines-alike-requires : tie.Need-lines-alike-requires Inv-loop μ-loop
 lines-alike-requires c κs = search needs
@@ -60,9 +60,9 @@ loop-holds : tie.Need-loop-holds Inv-loop μ-loop
 loop-holds c =
     let s = c .before .before in
     let a = s .args in (
-      row-fits _ _ (s .pre .0 .small) (s .pre .2),
+      row-end _ _ (s .pre .below),
       rw (c .lines-alike .ensures)
-          (walk-begin (alike-lt (a .n) (a .columns) (a .covered)) (row-none _ _ _ _ _ (s .pre .2))
+          (walk-begin (alike-lt (a .n) (a .columns) (a .covered)) (row-none _ _ _ _ _ (s .pre .below))
           (others (a .n) (a .mask .now) (a .columns) (a .row) (a .covered) (ofZ w64 (a .change)) _ _)),
     )
 
@@ -76,12 +76,12 @@ met : (c : tie.After-lowest-line Inv-loop μ-loop) → let a = c .before .before
     (l .left) (c .lowest-line .result)
 met c =
     let l = c .before .before in
-    walk-meets 64 (l .before .before .before .pre .0 .small) (c .before .loop-test .taken) (c .lowest-line .ensures) (l .loop .inv .1)
+    walk-meets 64 (l .before .before .before .pre .grid .word .most) (c .before .loop-test .taken) (c .lowest-line .ensures) (l .loop .inv .1)
 
 -- the mask byte of the cell is 0 or 1
 flag : (c : tie.After-lowest-line Inv-loop μ-loop) → let a = c .before .before .before .before .before .args in
     getD (a .mask .now) (a .row * a .n + c .lowest-line .result) 0 ≤ 1
-flag c = c .before .before .before .before .before .pre .5 _
+flag c = c .before .before .before .before .before .pre .flags _
 
 add-place : tie.Need-add-place Inv-loop μ-loop
 add-place c = let h = met c .below in search needs
@@ -114,7 +114,7 @@ followed-value-requires c κs =
     let ok = allows-is (a .n) (a .mask .now) (a .row) j (omega arith) in
     rw (product-is (a .change) (s .fits .change) _ (flag t), back64 x (c .followed-value-arg .given), follow-flag, ← ok)
     (cond-ind (SFits w64) (allows (a .n) (a .mask .now) (a .row) j) (follow (a .change) (a .covered) (a .covered) x) x
-    (λ y. rw (row-next _ _ _ _ _ _ _ (m .kept)) (rw (alike (a .n) (a .columns) (a .covered) j h (m .member)) at (s .pre .4 j h y)))
+    (λ y. rw (row-next _ _ _ _ _ _ _ (m .kept)) (rw (alike (a .n) (a .columns) (a .covered) j h (m .member)) at (s .pre .values j h y)))
     (λ y. record { sfits = c .followed-value-arg .given }))
 
 mul-t19 : tie.Need-mul-t19 Inv-loop μ-loop
@@ -164,7 +164,7 @@ returns : tie.Need-returns Inv-loop μ-loop
 returns c =
     let s = c .before .before .before .before in
     let done = walk-end (c .loop-test .left) (c .before .loop .inv .1) in
-    rw (toZ-ofZ (s .fits .change)) at (row-all _ _ _ _ _ _ _ (s .pre .2) (omega arith) done)
+    rw (toZ-ofZ (s .fits .change)) at (row-all _ _ _ _ _ _ _ (s .pre .below) (omega arith) done)
 
 pub follow-row-spec : {M : Type 1} → statement M
 follow-row-spec =

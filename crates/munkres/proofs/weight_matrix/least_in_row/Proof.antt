@@ -3,7 +3,7 @@ use borrow.Author.Needs.{needs}
 use mathlib.Core.Path.{_≡_, refl, _∙_}
 use mathlib.Core.Bool.{Bool, not, _&&_}
 use mathlib.Core.List.{List}
-use Prim.Native.Nat.{ℕ, _+_, _*_}
+use Prim.Native.Nat.{ℕ, _+_, _*_, _≤_}
 use native.Mathlib.Omega.{arith}
 use lib.IntN.{ℤ, pos}
 use lib.ListN.{getD}
@@ -14,7 +14,7 @@ use Rattle.lines.proofs.Walks.{Walk, Passes, Met, walk-begin, walk-meets, walk-
 use Rattle.steps.specs.Lent.{allows}
 use Rattle.munkres.specs.declared.weight_matrix.Least.{Least}
 use Rattle.munkres.specs.Least.{least-from}
-use Rattle.lines.proofs.Bounds.{RowFits, row-fits}
+use Rattle.lines.proofs.Bounds.{row-end}
 use Rattle.steps.proofs.Masks.{allows-yes, allows-no}
 use Rattle.munkres.proofs.Wide.{back64}
 use Rattle.munkres.proofs.Values.{from-take, from-skip}
@@ -27,7 +27,7 @@ Kept n mask working columns row best least i =
 
 abbrev Inv-loop : tie.InvT-loop
 Inv-loop n mask working columns row start least₀ left₀ least left =
-    RowFits n row × Walk n (rest n columns) (Kept n mask working columns row least₀ least) left
+    (row * n + n ≤ n * n) × Walk n (rest n columns) (Kept n mask working columns row least₀ least) left
 
 abbrev μ-loop : tie.MeasureT-loop
 μ-loop n mask working columns row start least₀ left₀ least left = left
@@ -38,7 +38,7 @@ covered : (n columns : ℕ) (q : ℕ → Bool) (f : ℕ → ℤ) (best least : L
 covered n columns q f best least k h e p = from-skip best _ f k least least p (rw (not-lacked n columns k h e)) refl
 
 mul-start : tie.Need-mul-start Inv-loop μ-loop
-mul-start c = let f = row-fits _ _ (c .before .pre .0 .small) (c .before .pre .2) in omega arith
+mul-start c = let f = row-end _ _ (c .before .pre .1) in omega arith
 
 uncovered-lines-requires : tie.Need-uncovered-lines-requires Inv-loop μ-loop
 uncovered-lines-requires c κs = search needs
@@ -47,7 +47,7 @@ loop-holds : tie.Need-loop-holds Inv-loop μ-loop
 unfolding least-from
 loop-holds c =
     let s = c .before .before in (
-      row-fits _ _ (s .pre .0 .small) (s .pre .2),
+      row-end _ _ (s .pre .1),
       rw (c .uncovered-lines .ensures)
           (walk-begin (rest-lt (s .args .n) (s .args .columns)) refl (covered _ _ _ _ _ _)),
     )
@@ -61,7 +61,7 @@ met : (c : tie.After-lowest-line Inv-loop μ-loop) → let a = c .before .before
     (l .left) (c .lowest-line .result)
 met c =
     let l = c .before .before in
-    walk-meets 64 (l .before .before .before .pre .0 .small) (c .before .loop-test .taken) (c .lowest-line .ensures) (l .loop .inv .1)
+    walk-meets 64 (l .before .before .before .pre .0 .word .most) (c .before .loop-test .taken) (c .lowest-line .ensures) (l .loop .inv .1)
 
 add-if1 : tie.Need-add-if1 Inv-loop μ-loop
 add-if1 c = let h = met c .below in search needs

@@ -50,7 +50,7 @@ met : (c : tie.After-lowest-line Inv-loop μ-loop) → let a = c .before .before
     (l .left) (c .lowest-line .result)
 met c =
     let l = c .before .before in
-    walk-meets 64 (l .before .before .before .pre .0 .small) (c .before .loop-test .taken) (c .lowest-line .ensures) (l .loop .inv)
+    walk-meets 64 (l .before .before .before .pre .word .most) (c .before .loop-test .taken) (c .lowest-line .ensures) (l .loop .inv)
 
 least-in-row-requires : tie.Need-least-in-row-requires Inv-loop μ-loop
 least-in-row-requires c κs = let h = met c .below in search needs

@@ -1,7 +1,7 @@
 -- `weight_matrix::min_of_row` meets its contract: the least allowed cost of the columns so far. Assumes nothing.
 use borrow.Author.Needs.{needs}
 use mathlib.Core.Path.{_≡_, _∙_}
-use Prim.Native.Nat.{ℕ, _-_, _≤_}
+use Prim.Native.Nat.{ℕ, _-_, _≤_, _*_, _+_}
 use native.Mathlib.Omega.{arith}
 use lib.IntN.{ℤ}
 use Rattle.lines.specs.Bounds.{Within}
@@ -9,7 +9,7 @@ use Rattle.lines.proofs.Tests.{cases}
 use Rattle.steps.specs.Lent.{allows, cost-at}
 use Rattle.munkres.specs.Least.{least-from}
 use Rattle.munkres.specs.declared.weight_matrix.Least.the-variants.{Value, Nothing}
-use Rattle.lines.proofs.Bounds.{RowFits, row-fits}
+use Rattle.lines.proofs.Bounds.{row-end}
 use Rattle.steps.proofs.Masks.{allows-yes, allows-no}
 use Rattle.munkres.proofs.Wide.{wide-fits, wide-back, wide-within}
 use Rattle.munkres.proofs.Values.{from-take, from-skip, lesser-holds}
@@ -18,19 +18,19 @@ use Rattle.munkres.proofs.weight_matrix.min_of_row.Tie as tie
 
 abbrev Inv-loop : tie.InvT-loop
 Inv-loop n costs mask row start least₀ column₀ least column =
-    RowFits n row × (column ≤ n) × (least ≡ least-from Nothing (allows n mask row) (cost-at n costs row) column)
+    (row * n + n ≤ n * n) × (column ≤ n) × (least ≡ least-from Nothing (allows n mask row) (cost-at n costs row) column)
     × ((z : ℤ) → least ≡ Value z → Within 2147483648 z)
 
 abbrev μ-loop : tie.MeasureT-loop
 μ-loop n costs mask row start least₀ column₀ least column = n - column
 
 mul-start : tie.Need-mul-start Inv-loop μ-loop
-mul-start c = let f = row-fits _ _ (c .before .pre .0 .small) (c .before .pre .2) in omega arith
+mul-start c = let f = row-end _ _ (c .before .pre .2) in omega arith
 
 loop-holds : tie.Need-loop-holds Inv-loop μ-loop
 unfolding least-from
 loop-holds c =
-    let f = row-fits _ _ (c .before .pre .0 .small) (c .before .pre .2) in
+    let f = row-end _ _ (c .before .pre .2) in
     (search needs, search needs, search needs, λ z e. let o : _≡_ {A = ℕ} 0 1 = cc in absurd (omega arith))
 
 add-if1 : tie.Need-add-if1 Inv-loop μ-loop

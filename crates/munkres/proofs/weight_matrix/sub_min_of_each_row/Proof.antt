@@ -38,7 +38,7 @@ sub-row-requires c κs =
     let p = c .before .price-of-row in (
       search needs,
       search needs,
-      record { small = s .pre .2 .small; size = c .before .before .before .loop .inv .1 .rows .long ∙ s .pre .2 .size },
+      c .before .before .before .loop .inv .1 .rows .long ∙ s .pre .2,
       search needs,
       rw (back64 (p .result) (p .ok)) (p .ensures .1),
     )
@@ -57,7 +57,7 @@ loop-again c =
     let p = c .before .before .before .price-of-row in
     let e = back64 (p .result) (p .ok) ∙ p .ensures .0 in (
       search needs,
-      rows-more _ _ _ _ _ _ _ _ (s .pre .2 .size) (omega arith) (λ j x. rw e) (c .before .sub-row .ensures) (l .inv .1),
+      rows-more _ _ _ _ _ _ _ _ (s .pre .2) (omega arith) (λ j x. rw e) (c .before .sub-row .ensures) (l .inv .1),
       passed-store _ _ _ _ _ _ (omega arith) e (l .inv .2),
     )
 

@@ -2,7 +2,7 @@
 use borrow.Author.Needs.{needs}
 use mathlib.Core.Path.{_∙_}
 use mathlib.Core.Bool.{cond}
-use Prim.Native.Nat.{_-_, _≤_}
+use Prim.Native.Nat.{_-_, _≤_, _*_, _+_}
 use native.Mathlib.Omega.{arith}
 use lib.IntN.{pos, _-ℤ_}
 use mir.Syntax.{w64}
@@ -11,7 +11,7 @@ use mir.Facts.{toZ-ofZ}
 use Rattle.lines.proofs.Tests.{cases}
 use Rattle.lines.proofs.Rows.{RowPassed, row-none, row-store, row-all}
 use Rattle.steps.specs.Lent.{allows, cost-at}
-use Rattle.lines.proofs.Bounds.{RowFits, row-fits}
+use Rattle.lines.proofs.Bounds.{row-end}
 use Rattle.steps.proofs.Masks.{allows-yes, allows-no}
 use Rattle.munkres.proofs.Wide.{wide-fits, excess-fits, excess-back}
 use Rattle.munkres.proofs.weight_matrix.sub_row.Statement.{statement}
@@ -19,17 +19,17 @@ use Rattle.munkres.proofs.weight_matrix.sub_row.Tie as tie
 
 abbrev Inv-loop : tie.InvT-loop
 Inv-loop n costs mask row price working₀ start column₀ working column =
-    RowFits n row × (column ≤ n)
+    (row * n + n ≤ n * n) × (column ≤ n)
     × RowPassed (pos 0) n row (λ j w. cond (allows n mask row j) (cost-at n costs row j -ℤ toZ w64 price) (pos 0)) working₀ working column
 
 abbrev μ-loop : tie.MeasureT-loop
 μ-loop n costs mask row price working₀ start column₀ working column = n - column
 
 mul-start : tie.Need-mul-start Inv-loop μ-loop
-mul-start c = let f = row-fits _ _ (c .pre .0 .small) (c .pre .3) in omega arith
+mul-start c = let f = row-end _ _ (c .pre .3) in omega arith
 
 loop-holds : tie.Need-loop-holds Inv-loop μ-loop
-loop-holds c = (row-fits _ _ (c .pre .0 .small) (c .pre .3), search needs, row-none _ _ _ _ _ (c .pre .3))
+loop-holds c = (row-end _ _ (c .pre .3), search needs, row-none _ _ _ _ _ (c .pre .3))
 
 add-place : tie.Need-add-place Inv-loop μ-loop
 add-place c = search needs
