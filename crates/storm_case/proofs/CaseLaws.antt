@@ -32,11 +32,11 @@ module _ (file : List ℕ) {s : Scan} {fragments events : List ℕ} (agrees : Ag
   pub all-read : s .judged ≡ Accepted → (s .fragments ≡ s .n) × (s .events ≡ s .n)
   all-read e =
       let a = accepted-filled file (judged-is e) in
-      (sym (rows-taken (agrees .ready)) ∙ a .rows, sym (columns-taken (agrees .ready)) ∙ a .columns)
+      (sym (rows-taken (agrees .consistent)) ∙ a .rows, sym (columns-taken (agrees .consistent)) ∙ a .columns)
 
   -- a square of n rows has its room in the front of a buffer
   pub cells-front : {A : Type 0} (xs : List A) → length xs ≡ 4096 → Front (s .n * s .n) xs
-  cells-front xs l = front-of (cells-fit (agrees .ready .small)) l
+  cells-front xs l = front-of (cells-fit (agrees .consistent .small)) l
 
   pub fillable : {A B : Type 0} (costs : List A) (mask : List B) → s .judged ≡ Accepted → has-cells (length costs) (length mask) ≡ true
       → Fillable file s fragments events (take (s .n * s .n) costs) (take (s .n * s .n) mask)
@@ -44,7 +44,7 @@ module _ (file : List ℕ) {s : Scan} {fragments events : List ℕ} (agrees : Ag
       let a = all-read e in
       let long = cells-are _ _ room in
       record {
-        ready = agrees .ready;
+        consistent = agrees .consistent;
         all-rows = a .0;
         all-columns = a .1;
         costs-long = sym (cells-front costs (long .0) .long);
@@ -100,4 +100,4 @@ module _ (file : List ℕ) (i : ℕ) {s : Scan} {fragments events : List ℕ} (a
       hut-there q = rw (q, judged-is file agrees e, lt-ltb i (s .n) below, getD-take (s .fragments) fragments i 0 (omega (arith, all-read file agrees e .0)))
 
       pub fragment-inside : getD fragments i 0 + 9 ≤ length file
-      fragment-inside = agrees .ready .rows .inside i (omega (arith, all-read file agrees e .0))
+      fragment-inside = agrees .consistent .rows .inside i (omega (arith, all-read file agrees e .0))

@@ -39,10 +39,10 @@ full n window fragments events = D.scan-with 0 n window (take n fragments) (take
 module _ {A B : Type 0} {file : List ℕ} {s : Scan} {fragments events : List ℕ} {costs : List A} {mask : List B}
     (f : Fillable file s fragments events costs mask) where
   pub row-inside : (i : ℕ) → i < s .n → getD fragments i 0 + 9 ≤ length file
-  row-inside i h = f .ready .rows .inside i (omega (arith, f .all-rows))
+  row-inside i h = f .consistent .rows .inside i (omega (arith, f .all-rows))
 
   pub column-inside : (j : ℕ) → j < s .n → getD events j 0 + 7 ≤ length file
-  column-inside j h = f .ready .columns .inside j (omega (arith, f .all-columns))
+  column-inside j h = f .consistent .columns .inside j (omega (arith, f .all-columns))
 
 -- a row whose first columns are done in both buffers
 pub record RowDone (file : List ℕ) (n window : ℕ) (fragments events : List ℕ) (row : ℕ) (costs₀ costs : List ℤ) (mask₀ mask : List ℕ) (column : ℕ) : Type 0 where

@@ -60,7 +60,7 @@ module _ (k : ℕ) (file : List ℕ) (s : D.Scan) (h : s .at + 9 ≤ k) where
 -- ---- how far the scan comes
 
 -- where the next record stands: a size takes 7 bytes, a fragment 9, an event 7
-record Paced (s : D.Scan) : Type 0 where
+record Standing (s : D.Scan) : Type 0 where
   first : s .n ≡ 0 → s .at ≡ 0
   small : s .n ≤ 64
   few-rows : length (s .fragments) ≤ s .n
@@ -68,12 +68,12 @@ record Paced (s : D.Scan) : Type 0 where
   pace : s .at ≤ 7 + 9 * length (s .fragments) + 7 * length (s .events)
 
 -- after one record: an accepted file ends there, and a refusal lies no further on
-abbrev Next : List ℕ → D.Judged → Type 0
-Next file (D.more t) = Paced t
-Next file (D.refused number place) = (21 ≤ number) × (number ≤ 26) × (place ≤ 1032)
-Next file (D.accepted t) = Paced t × (length file ≡ t .at + 1)
+abbrev Ahead : List ℕ → D.Judged → Type 0
+Ahead file (D.more t) = Standing t
+Ahead file (D.refused number place) = (21 ≤ number) × (number ≤ 26) × (place ≤ 1032)
+Ahead file (D.accepted t) = Standing t × (length file ≡ t .at + 1)
 
-next : {file : List ℕ} {s : D.Scan} {j : D.Judged} → Paced s → Does file s j → Next file j
+next : {file : List ℕ} {s : D.Scan} {j : D.Judged} → Standing s → Does file s j → Ahead file j
 next {s = s} h (refuses number place r) = (r .low, r .high, omega (arith, r .near, h .pace, h .few-rows, h .few-columns, h .small))
 next {s = s} h (sizes r) = record {
   first = λ e. absurd (r .some e);
@@ -102,34 +102,34 @@ next {s = s} h (adds-column r) =
     }
 next h (ends r) = (h, sym (r .last))
 
-start-paced : Paced D.start
-start-paced = record { first = λ e. refl; small = omega arith; few-rows = omega arith; few-columns = omega arith; pace = omega arith }
+start-ahead : Standing D.start
+start-ahead = record { first = λ e. refl; small = omega arith; few-rows = omega arith; few-columns = omega arith; pace = omega arith }
 
 -- ---- record after record
 
-paced-from : (file : List ℕ) (m : ℕ) (j : D.Judged) → Next file j → Next file (D.judge-from file m j)
+ahead-from : (file : List ℕ) (m : ℕ) (j : D.Judged) → Ahead file j → Ahead file (D.judge-from file m j)
 unfolding D.judge-from
-paced-from file zero j h = h
-paced-from file (suc m) (D.more s) h = paced-from file m (D.judge-record file s) (next h (record-does file s))
-paced-from file (suc m) (D.refused number place) h = h
-paced-from file (suc m) (D.accepted s) h = h
+ahead-from file zero j h = h
+ahead-from file (suc m) (D.more s) h = ahead-from file m (D.judge-record file s) (next h (record-does file s))
+ahead-from file (suc m) (D.refused number place) h = h
+ahead-from file (suc m) (D.accepted s) h = h
 
-judged-paced : (file : List ℕ) → Next file (D.judged file)
+judged-ahead : (file : List ℕ) → Ahead file (D.judged file)
 unfolding D.judged
-judged-paced file = paced-from file (length file + 1) (D.more D.start) start-paced
+judged-ahead file = ahead-from file (length file + 1) (D.more D.start) start-ahead
 
 -- an accepted file has at most 1,032 bytes
 pub accepted-short : (file : List ℕ) {s : D.Scan} → D.judged file ≡ D.accepted s → length file ≤ 1032
 accepted-short file {s} e =
-    let h : Next file (D.accepted s) = subst (Next file) e (judged-paced file) in
+    let h : Ahead file (D.accepted s) = subst (Ahead file) e (judged-ahead file) in
     omega (arith, h .1, h .0 .pace, h .0 .few-rows, h .0 .few-columns, h .0 .small)
 
 -- a refusal has one of the numbers 21 to 26, and a place of at most 1,032
 pub refused-early : (file : List ℕ) {number place : ℕ} → D.judged file ≡ D.refused number place → (21 ≤ number) × (number ≤ 26) × (place ≤ 1032)
-refused-early file e = subst (Next file) e (judged-paced file)
+refused-early file e = subst (Ahead file) e (judged-ahead file)
 
 -- the same verdict from as many records
-same-from : (k : ℕ) (file : List ℕ) → 1040 ≤ k → (m : ℕ) (j : D.Judged) → Next file j → D.judge-from (take k file) m j ≡ D.judge-from file m j
+same-from : (k : ℕ) (file : List ℕ) → 1040 ≤ k → (m : ℕ) (j : D.Judged) → Ahead file j → D.judge-from (take k file) m j ≡ D.judge-from file m j
 unfolding D.judge-from
 same-from k file b zero j h = refl
 same-from k file b (suc m) (D.more s) h =
@@ -159,7 +159,7 @@ cut-judged k b file =
     let start = D.more D.start in
     let fewer : length (take k file) + 1 ≤ length file + 1 = omega (arith, length-take k file) in
     sym (verdict-stays (take k file) (length (take k file) + 1) (length file + 1) start fewer (λ s e. never-more (take k file) e))
-    ∙ same-from k file b (length file + 1) start start-paced
+    ∙ same-from k file b (length file + 1) start start-ahead
 
 module _ (k : ℕ) (b : 1040 ≤ k) (file : List ℕ) where
   -- an accepted file is not cut

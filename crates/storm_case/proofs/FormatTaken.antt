@@ -65,14 +65,14 @@ module _ (file : List ℕ) (s : D.Scan) {bytes : List ℕ} (w : drop (s .at) fil
       ∙ kind-end file s (omega (arith, kind)) (omega (arith, kind)) (omega (arith, kind)) ∙ record-whole file s here refl)
 
 -- what is left of n
-pub record Due (s : D.Scan) (lines : List Line) : Type 0 where
+pub record LinesDue (s : D.Scan) (lines : List Line) : Type 0 where
   pub some : s .n ≢ 0
   pub rows-due : length (s .fragments) + length (rows lines) ≡ s .n
   pub columns-due : length (s .events) + length (columns lines) ≡ s .n
 
 -- one record for each line, and one for the end
 pub lines-taken : (file : List ℕ) (lines : List Line) (k : ℕ) (s : D.Scan) → drop (s .at) file ≡ lines-bytes lines
-    → Due s lines → AllFit lines → length lines < k → LinesTaken file k s lines
+    → LinesDue s lines → AllFit lines → length lines < k → LinesTaken file k s lines
 unfolding D.judge-from lines-bytes rows columns line-bytes little-endian
 lines-taken file [] zero s w d fit room = absurd (omega arith)
 lines-taken file [] (suc k) s w d fit room =
@@ -80,7 +80,7 @@ lines-taken file [] (suc k) s w d fit room =
     record { scan = s; verdict = ap (D.judge-from file k) end ∙ stays-accepted file k s; further = no-further file s }
 lines-taken file (row f ∷ lines) zero s w d fit room = absurd (omega arith)
 lines-taken file (row f ∷ lines) (suc k) s w d fit room =
-    let due : Due (D.with-row s) lines = record {
+    let due : LinesDue (D.with-row s) lines = record {
       some = d .some;
       rows-due = omega (arith, d .rows-due, length-append (s .fragments) (s .at ∷ []));
       columns-due = d .columns-due;
@@ -93,7 +93,7 @@ lines-taken file (row f ∷ lines) (suc k) s w d fit room =
     }
 lines-taken file (column e ∷ lines) zero s w d fit room = absurd (omega arith)
 lines-taken file (column e ∷ lines) (suc k) s w d fit room =
-    let due : Due (D.with-column s) lines = record {
+    let due : LinesDue (D.with-column s) lines = record {
       some = d .some;
       rows-due = d .rows-due;
       columns-due = omega (arith, d .columns-due, length-append (s .events) (s .at ∷ []));

@@ -58,7 +58,7 @@ pub record Offsets (file : List ℕ) (n count size : ℕ) (offsets : List ℕ) :
   pub few : count ≤ n
   pub inside : (i : ℕ) → i < count → getD offsets i 0 + size ≤ length file
 
-pub record Ready (file : List ℕ) (s : Scan) (fragments events : List ℕ) : Type 0 where
+pub record Consistent (file : List ℕ) (s : Scan) (fragments events : List ℕ) : Type 0 where
   pub inside : s .at ≤ length file
   pub small : s .n ≤ 64
   pub low : s .window ≤ 1_000_000_000
@@ -68,13 +68,13 @@ pub record Ready (file : List ℕ) (s : Scan) (fragments events : List ℕ) : Ty
 -- the code's scan says what the definition does
 pub record Agrees (file : List ℕ) (d : D.Judged) (s : Scan) (fragments events : List ℕ) : Type 0 where
   pub exact : view s fragments events ≡ d
-  pub ready : Ready file s fragments events
+  pub consistent : Consistent file s fragments events
 
 -- ---- what one record does
 
 -- a record that keeps no offset: so whatever the arrays hold
-abbrev pub Judges : List ℕ → (D.Scan → D.Judged) → Scan → Scan → Type 0
-Judges file d s r = (fragments events : List ℕ) → Ready file s fragments events → Agrees file (d (view-scan s fragments events)) r fragments events
+abbrev pub JudgesRecord : List ℕ → (D.Scan → D.Judged) → Scan → Scan → Type 0
+JudgesRecord file d s r = (fragments events : List ℕ) → Consistent file s fragments events → Agrees file (d (view-scan s fragments events)) r fragments events
 
 -- a fragment or an event, of which there were `count`: refused, or its offset is kept, and the scan is `next`
 pub data JudgesLine (s next : Scan) (count : ℕ) (offsets : List ℕ) : Scan → List ℕ → Type 0 where
@@ -86,7 +86,7 @@ pub data JudgesLine (s next : Scan) (count : ℕ) (offsets : List ℕ) : Scan �
 
 -- as many fragments and events as the size says, and room for their cells
 pub record Fillable {A B : Type 0} (file : List ℕ) (s : Scan) (fragments events : List ℕ) (costs : List A) (mask : List B) : Type 0 where
-  pub ready : Ready file s fragments events
+  pub consistent : Consistent file s fragments events
   pub all-rows : s .fragments ≡ s .n
   pub all-columns : s .events ≡ s .n
   pub costs-long : length costs ≡ s .n * s .n

@@ -3,7 +3,7 @@ ghost use Prim.Native.Nat.{_+_, _≤_};
 ghost use lib.ListN.{length};
 ghost use Rattle.records.specs.Records.{Whole};
 ghost use Rattle.storm_case.specs.Scan.{size as Scan·size, end as Scan·end, by-kind, judge-record};
-ghost use Rattle.storm_case.specs.View.{view-scan, Ready, Agrees, Judges, JudgesLine};
+ghost use Rattle.storm_case.specs.View.{view-scan, Consistent, Agrees, JudgesRecord, JudgesLine};
 use crate::numbers;
 use crate::scan;
 use crate::scan::Judged;
@@ -13,7 +13,7 @@ use records::Found;
 // A size record: first, and only once; n from 1 to 64, a window of at most 1,000,000,000.
 fn judge_size(file: &[u8], scan: Scan) -> Scan
     requires { ⌜ scan .at + 7 ≤ length (now file) ⌝ }
-    ensures { λ r. ⌜ Judges (now (file .entry)) (Scan·size (now (file .entry))) scan r ⌝ }
+    ensures { λ r. ⌜ JudgesRecord (now (file .entry)) (Scan·size (now (file .entry))) scan r ⌝ }
 {
     let at = scan.at;
     if scan.n != 0 {
@@ -52,7 +52,7 @@ fn judge_line(scan: Scan, next: Scan, count: usize, offsets: &mut [usize]) -> Sc
 // The end: not first, not too early, and nothing after it.
 fn judge_end(file: &[u8], scan: Scan) -> Scan
     requires { ⌜ scan .at + 1 ≤ length (now file) ⌝ }
-    ensures { λ r. ⌜ Judges (now (file .entry)) (Scan·end (now (file .entry))) scan r ⌝ }
+    ensures { λ r. ⌜ JudgesRecord (now (file .entry)) (Scan·end (now (file .entry))) scan r ⌝ }
 {
     let at = scan.at;
     let n = scan.n;
@@ -74,7 +74,7 @@ fn judge_end(file: &[u8], scan: Scan) -> Scan
 
 // A whole record, by its kind.
 fn judge_kind(file: &[u8], scan: Scan, fragments: &mut [usize], events: &mut [usize]) -> Scan
-    requires { ⌜ Ready (now file) scan (now fragments) (now events) × Whole (now file) (scan .at) ⌝ }
+    requires { ⌜ Consistent (now file) scan (now fragments) (now events) × Whole (now file) (scan .at) ⌝ }
     ensures { λ r. ⌜ Agrees (now (file .entry)) (by-kind (now (file .entry)) (view-scan scan (now (fragments .entry)) (now (events .entry)))) r
         (now (fragments .exit)) (now (events .exit)) ⌝ }
 {
@@ -99,7 +99,7 @@ pub(crate) fn judge_record(
     fragments: &mut [usize],
     events: &mut [usize],
 ) -> Scan
-    requires { ⌜ Ready (now file) scan (now fragments) (now events) ⌝ }
+    requires { ⌜ Consistent (now file) scan (now fragments) (now events) ⌝ }
     ensures { λ r. ⌜ Agrees (now (file .entry)) (judge-record (now (file .entry)) (view-scan scan (now (fragments .entry)) (now (events .entry)))) r
         (now (fragments .exit)) (now (events .exit)) ⌝ }
 {

@@ -47,7 +47,7 @@ enum-told-2 : tie.Need-enum-told-2
 enum-told-2 c = search needs
 
 mul-cells : tie.Need-mul-cells
-mul-cells c = let cells = cells-fit (judged (c .before .before) .judge-file .ensures .ready .small) in omega arith
+mul-cells c = let cells = cells-fit (judged (c .before .before) .judge-file .ensures .consistent .small) in omega arith
 
 slice-aggregate-fill : tie.Need-slice-aggregate-fill
 slice-aggregate-fill c = search needs
@@ -60,7 +60,7 @@ slice-relend-prefix-fill c =
     let accepted = c .before .before in
     let file = judged (accepted .before .before) in
     let cells = cells-are _ _ (test-passed (room file .before .has-cells .ensures) (room file .if1 .left)) in
-    omega (arith, cells .0, cells-fit (file .judge-file .ensures .ready .small))
+    omega (arith, cells .0, cells-fit (file .judge-file .ensures .consistent .small))
 
 slice-aggregate-fill-3 : tie.Need-slice-aggregate-fill-3
 slice-aggregate-fill-3 c =
@@ -74,7 +74,7 @@ slice-relend-prefix-fill-2 c =
     let accepted = c .before .before .before in
     let file = judged (accepted .before .before) in
     let cells = cells-are _ _ (test-passed (room file .before .has-cells .ensures) (room file .if1 .left)) in
-    omega (arith, cells .1, cells-fit (file .judge-file .ensures .ready .small))
+    omega (arith, cells .1, cells-fit (file .judge-file .ensures .consistent .small))
 
 slice-aggregate-fill-4 : tie.Need-slice-aggregate-fill-4
 slice-aggregate-fill-4 c =

@@ -30,7 +30,7 @@ fill-row-requires c κs =
     let f = begun loop .pre in
     let done = loop .loop .inv in (
       record {
-        ready = f .ready;
+        consistent = f .consistent;
         all-rows = f .all-rows;
         all-columns = f .all-columns;
         costs-long = done .costs-done .rows .long ∙ f .costs-long;

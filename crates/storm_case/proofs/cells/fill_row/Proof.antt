@@ -60,14 +60,14 @@ u32-at-requires c κs =
 mul-start : tie.Need-mul-start Inv-loop μ-loop
 mul-start c =
     let pre = begun (c .before .before) .pre in
-    let fits = row-fits _ _ (pre .0 .ready .small) (pre .1) in
+    let fits = row-fits _ _ (pre .0 .consistent .small) (pre .1) in
     omega arith
 
 loop-holds : tie.Need-loop-holds Inv-loop μ-loop
 loop-holds c =
     let pre = begun (c .before .before) .pre in
     record {
-      fits = row-fits _ _ (pre .0 .ready .small) (pre .1);
+      fits = row-fits _ _ (pre .0 .consistent .small) (pre .1);
       within = omega arith;
       costs-done = row-none _ _ _ _ _ (pre .1);
       mask-done = row-none _ _ _ _ _ (pre .1);
@@ -117,7 +117,7 @@ cost-of-requires c κs =
     let event-area = c .before .before .before in
     let loop = event-area .before .before .before in
     let area = loop .before .before in
-    small-error (eqb (area .u16-at .result) (event-area .u16-at2 .result)) _ _ _ (begun-loop loop .pre .0 .ready .low) (c .may-pair .ensures)
+    small-error (eqb (area .u16-at .result) (event-area .u16-at2 .result)) _ _ _ (begun-loop loop .pre .0 .consistent .low) (c .may-pair .ensures)
 
 mul-t25 : tie.Need-mul-t25 Inv-loop μ-loop
 mul-t25 c = search needs
