@@ -4,6 +4,7 @@ pub mod Sums
 pub mod Counts
 pub mod Firsts
 pub mod Signed
+pub mod Wide
 pub mod Leasts
 pub mod Sumsℤ
 pub mod Squares

@@ -1,16 +1,10 @@
--- The places of cells and prices lie in their buffers; a cost as a 64-bit number.
-use mathlib.Core.Path.{_≡_}
+-- The places of cells and prices lie in their buffers.
 use mathlib.Core.List.{List}
-use Prim.Native.Nat.{ℕ, _+_, _*_, _≤_, _<_, _^_}
+use Prim.Native.Nat.{ℕ, _+_, _*_, _≤_, _<_}
 use native.Mathlib.Omega.{arith}
-use lib.IntN.{ℤ}
 use lib.ListN.{getD}
-use lib.Signed.{mag}
-use mir.Syntax.{w32, w64}
-use mir.Val.{SFits, toZ, ofZ}
-use mir.Facts.{toZ-ofZ}
 use Rattle.lines.proofs.Bounds.{row-fits}
-use Rattle.price_list.specs.Listed.{Listed}
+use Rattle.price_list.specs.Listed.{Listed, InList}
 
 pub record Place (n row event : ℕ) : Type 0 where
   pub price : event < 64
@@ -22,19 +16,8 @@ place-fits n row event small h l =
     let f = row-fits n row small h in
     record { price = omega arith; start = omega (arith, f); cell = omega (arith, f) }
 
-pub cell-place : (n row event : ℕ) → (n ≤ 64) × (row < n) × (event < n) → Place n row event
-cell-place n row event h = place-fits n row event (h .0) (h .1) (h .2)
+pub cell-place : {n row event : ℕ} → InList n row event → Place n row event
+cell-place {n} {row} {event} h = place-fits n row event (h .small) (h .row-below) (h .event-below)
 
 pub pair-place : {n : ℕ} {columns : List ℕ} → Listed n columns → (row : ℕ) → row < n → Place n row (getD columns row 0)
 pair-place {n} {columns} p row h = place-fits n row (getD columns row 0) (p .small) h (p .below row h)
-
--- an `i32` as an `i64`: what the cast asks
-pub wide-fits : (z : ℤ) → mag z < 2 ^ 31 → SFits w64 (toZ w32 (ofZ w32 z))
-wide-fits z h = rw (toZ-ofZ {w = w32} {z = z} (record { sfits = h })) (record { sfits = omega arith })
-
--- and what comes of it, of the cost and of a price
-pub back : (z : ℤ) → mag z < 2 ^ 63 → toZ w64 (ofZ w64 z) ≡ z
-back z h = toZ-ofZ (record { sfits = h })
-
-pub wide-back : (z : ℤ) → mag z < 2 ^ 31 → toZ w64 (ofZ w64 (toZ w32 (ofZ w32 z))) ≡ z
-wide-back z h = rw (toZ-ofZ {w = w32} {z = z} (record { sfits = h })) (back z (omega arith))

@@ -8,11 +8,11 @@ use lib.ListN.{getD}
 use lib.Seq.{getD-take}
 use Rattle.storm_case.specs.declared.pair.Pairs.{Pairs}
 use Rattle.storm_case.specs.Scan.{Judged, more, refused, accepted, judged}
-use Rattle.storm_case.specs.Pair.{Room, enough-room, front, PairPromise}
+use Rattle.storm_case.specs.Pair.{Loan, enough-room, front, PairPromise}
 use Rattle.storm_case.proofs.ScanLaws.{never-more, accepted-filled, refused-some}
 use Rattle.price_list.specs.Listed.{Listed}
 
-module _ {file : List ℕ} {before : Room} {p : Pairs} {after : Room} (x : PairPromise file before p after) (room : enough-room before ≡ true) where
+module _ {file : List ℕ} {before : Loan} {p : Pairs} {after : Loan} (x : PairPromise file before p after) (room : enough-room before ≡ true) where
   pub few-rows : p .n ≤ 64
   few-rows = go (judged file) refl
     where

@@ -1,7 +1,7 @@
 -- What the solver's promise says of a pairing's prices: a chosen pair has no spare, no spare is below 0, and no sum of prices overflows.
-use mathlib.Core.Path.{_≡_, refl, sym, ap, _∙_}
-use mathlib.Core.Option.{Option, some}
-use Prim.Native.Nat.{ℕ, _+_, _*_, _≤_, _<_}
+use mathlib.Core.Path.{_≡_, sym, _∙_}
+use mathlib.Core.Logic.{inl}
+use Prim.Native.Nat.{ℕ, _≤_, _<_}
 use native.Mathlib.Omega.{arith}
 use lib.Dec.{T}
 use lib.IntN.{ℤ, pos, _+ℤ_, +ℤ-idr}
@@ -17,42 +17,16 @@ use Rattle.assignment.specs.Prices.{PriceList}
 use Rattle.assignment.proofs.Duality.{weighed}
 use Rattle.steps.specs.declared.Answer.{Answer}
 use Rattle.steps.specs.Lent.{Task, Buffers, allowed, cost}
-use Rattle.steps.specs.Refusal.{Verdict, refused, dead, accepted, verdict}
-use Rattle.steps.specs.Steps.{Next, Step3, Step4, Step5, Step6, Paired, NoPairing, Unfinished, Machine}
-use Rattle.steps.specs.Outcome.{judged, given, written}
-use Rattle.steps.specs.Promise.{row-price-at, column-price-at, working-at, Promise}
-use Rattle.steps.proofs.Verdicts.{Tells, verdict-tells}
-use Rattle.steps.proofs.Answers.{reached}
-use Rattle.steps.proofs.Theorems.{in-limits}
-
--- two answers that are given back, with their buffers
-same : {x y : Answer} {b c : Buffers} → _≡_ {A = Option (Answer × Buffers)} (some (x, b)) (some (y, c)) → _≡_ {A = Answer × Buffers} (x, b) (y, c)
-same e = cc
-
-prices-of : {x y : Answer} {b c : Buffers} → _≡_ {A = Option (Answer × Buffers)} (some (x, b)) (some (y, c))
-    → (c .row-prices ≡ b .row-prices) × (c .column-prices ≡ b .column-prices)
-prices-of e =
-    let q = same e in
-    (sym (ap (λ (r : Answer × Buffers). r .1 .row-prices) q), sym (ap (λ (r : Answer × Buffers). r .1 .column-prices) q))
+use Rattle.steps.specs.Refusal.{accepted, verdict}
+use Rattle.steps.specs.Promise.{row-price-at, column-price-at, working-at, largest, Promise}
 
 module _ {t : Task} {before : Buffers} {a : Answer} {after : Buffers} (p : Promise 64 t before a after) (paired : a .number ≡ 0) where
   -- the steps ran
-  pub taken : verdict t 64 before ≡ accepted
-  unfolding judged
-  taken = go (verdict t 64 before) refl (verdict-tells 64 t before) (p .exact .exact)
-    where
-      go : (v : Verdict) → verdict t 64 before ≡ v → Tells 64 t before v
-          → judged t before (p .exact .count) v ≡ some (a, after) → verdict t 64 before ≡ accepted
-      go accepted e tells q = e
-      go (refused number place) e tells q =
-          let z : number ≡ a .number = ap (λ (r : Answer × Buffers). r .0 .number) (same q) in
-          absurd (omega (arith, tells .0))
-      go (dead row) e tells q =
-          let z : 6 ≡ a .number = ap (λ (r : Answer × Buffers). r .0 .number) (same q) in
-          absurd (omega arith)
+  ran : verdict t 64 before ≡ accepted
+  ran = p .settled .ran (inl paired)
 
   abbrev list : PriceList (t .n) (allowed t) (cost t) (row-price-at after) (column-price-at after) (working-at (t .n) after)
-  list = p .prices taken .0
+  list = p .prices ran .0
 
   -- a chosen pair
   no-spare : (i : ℕ) → i < t .n → working-at (t .n) after i (column (after .columns) i) ≡ pos 0
@@ -79,38 +53,18 @@ module _ {t : Task} {before : Buffers} {a : Answer} {after : Buffers} (p : Promi
 
   -- ---- sums of prices
 
-  -- the prices are those of the last step
-  at-end : (m : Machine) (x : Next) → given t before m x ≡ some (a, after)
-      → (after .row-prices ≡ m .row-prices) × (after .column-prices ≡ m .column-prices)
-  unfolding given written
-  at-end m Paired e = prices-of e
-  at-end m NoPairing e = prices-of e
-  at-end m Unfinished e = prices-of e
-  at-end m Step3 e = let z : _≡_ {A = ℕ} 0 1 = cc in absurd (omega arith)
-  at-end m Step4 e = let z : _≡_ {A = ℕ} 0 1 = cc in absurd (omega arith)
-  at-end m (Step5 i j) e = let z : _≡_ {A = ℕ} 0 1 = cc in absurd (omega arith)
-  at-end m Step6 e = let z : _≡_ {A = ℕ} 0 1 = cc in absurd (omega arith)
-
-  abbrev last : Machine
-  last = reached t (p .exact .count)
-
-  as-last : (after .row-prices ≡ last .row-prices) × (after .column-prices ≡ last .column-prices)
-  unfolding judged
-  as-last = at-end last (last .run .next) (sym (ap (judged t before (p .exact .count)) taken) ∙ p .exact .exact)
-
   -- sums of at most 64 prices, each at most 258,000,000,000 away from 0
-  held : (f : ℕ → ℤ) (small : t .n ≤ 64) → ((i : ℕ) → i < t .n → Within (2_000_000_000 + 4_000_000_000 * t .n) (f i))
-      → (k : ℕ) → k ≤ t .n → SFits w64 (sumℤ f k)
+  held : (f : ℕ → ℤ) (small : t .n ≤ 64) → ((i : ℕ) → i < t .n → Within (largest (t .n)) (f i)) → (k : ℕ) → k ≤ t .n → SFits w64 (sumℤ f k)
   held f small within k h =
       let wide : (i : ℕ) → i < k → Within 258_000_000_000 (f i) =
       λ i l.
       let w = within i (omega arith) in
-      let parts = neg-parts (pos (2_000_000_000 + 4_000_000_000 * t .n)) in
+      let parts = neg-parts (pos (largest (t .n))) in
       record { above = omega (signed, w .above, parts, neg-parts (pos 258_000_000_000)); below = omega (signed, w .below) } in
       within-fits w64 (sumℤ-within 258_000_000_000 f k wide) (omega arith)
 
   pub row-prices-held : t .n ≤ 64 → (k : ℕ) → k ≤ t .n → SFits w64 (sumℤ (row-price-at after) k)
-  row-prices-held small = held (row-price-at after) small (rw (as-last .0) (in-limits 64 t before taken (p .exact .count) .row-prices))
+  row-prices-held small = held (row-price-at after) small (p .limits ran .rows)
 
   pub column-prices-held : t .n ≤ 64 → (k : ℕ) → k ≤ t .n → SFits w64 (sumℤ (column-price-at after) k)
-  column-prices-held small = held (column-price-at after) small (rw (as-last .1) (in-limits 64 t before taken (p .exact .count) .column-prices))
+  column-prices-held small = held (column-price-at after) small (p .limits ran .columns)

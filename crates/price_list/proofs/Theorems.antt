@@ -17,30 +17,30 @@ use Rattle.steps.specs.Lent.{allows, cost-at}
 use Rattle.storm_case.specs.declared.pair.Pairs.{Pairs}
 use Rattle.storm_case.specs.Scan.{Scan, Judged, more, refused, accepted, judged}
 use Rattle.storm_case.specs.Case.{pair-cost, mask-byte, filled}
-use Rattle.storm_case.specs.Pair.{Room, enough-room, front, Solved, PairPromise}
+use Rattle.storm_case.specs.Pair.{Loan, enough-room, front, Solved, PairPromise}
 use Rattle.storm_case.proofs.ScanLaws.{never-more, accepted-filled, refused-some}
 use Rattle.price_list.specs.Listed.{SumOf}
 use Rattle.price_list.proofs.SolverLaws.{pair-adds, allowed-adds, row-prices-held, column-prices-held}
 
 -- the numbers of a line, of n rows
-module _ (n : ℕ) (r : Room) where
+module _ (n : ℕ) (r : Loan) where
   abbrev pub difference : ℕ → ℕ → ℤ
   difference row event = cell (pos 0) n (r .costs) row event
 
   abbrev pub spare : ℕ → ℕ → ℤ
   spare row event = cell (pos 0) n (r .rest .working) row event
 
-abbrev pub event-of : Room → ℕ → ℕ
+abbrev pub event-of : Loan → ℕ → ℕ
 event-of r row = getD (r .rest .columns) row 0
 
-abbrev pub row-price : Room → ℕ → ℤ
+abbrev pub row-price : Loan → ℕ → ℤ
 row-price r row = getD (r .rest .row-prices) row (pos 0)
 
-abbrev pub event-price : Room → ℕ → ℤ
+abbrev pub event-price : Loan → ℕ → ℤ
 event-price r event = getD (r .rest .column-prices) event (pos 0)
 
 -- what is claimed of n rows with this total
-pub record AddsUp (n : ℕ) (r : Room) (total : ℤ) : Type 0 where
+pub record AddsUp (n : ℕ) (r : Loan) (total : ℤ) : Type 0 where
   pub pairs : (row : ℕ) → row < n → difference n r row (event-of r row) ≡ row-price r row +ℤ event-price r (event-of r row)
   pub every : (row event : ℕ) → row < n → event < n → cell 0 n (r .mask) row event ≡ 1
       → difference n r row event ≡ row-price r row +ℤ event-price r event +ℤ spare n r row event
@@ -50,7 +50,7 @@ pub record AddsUp (n : ℕ) (r : Room) (total : ℤ) : Type 0 where
   pub rows : (z : ℤ) → SumOf n (r .rest .row-prices) z → z ≡ sumℤ (row-price r) n
   pub events : (z : ℤ) → SumOf n (r .rest .column-prices) z → z ≡ sumℤ (event-price r) n
 
-module _ {file : List ℕ} {s : Scan} {before : Room} {p : Pairs} {after : Room}
+module _ {file : List ℕ} {s : Scan} {before : Loan} {p : Pairs} {after : Loan}
     (y : Solved file s before p after) (small : s .n ≤ 64) (paired : p .number ≡ 0) where
   abbrev n : ℕ
   n = s .n
@@ -115,7 +115,7 @@ module _ {file : List ℕ} {s : Scan} {before : Room} {p : Pairs} {after : Room}
   }
 
 -- of every file that is paired
-pub adds-up : {file : List ℕ} {before : Room} {p : Pairs} {after : Room} → PairPromise file before p after → enough-room before ≡ true → p .number ≡ 0
+pub adds-up : {file : List ℕ} {before : Loan} {p : Pairs} {after : Loan} → PairPromise file before p after → enough-room before ≡ true → p .number ≡ 0
     → AddsUp (p .n) after (p .total)
 adds-up {file} {before} {p} {after} x room paired = go (judged file) refl
   where

@@ -14,6 +14,12 @@ pub record Listed (n : ℕ) (columns : List ℕ) : Type 0 where
   pub small : n ≤ 64
   pub below : (row : ℕ) → row < n → getD columns row 0 < n
 
+-- a row and an event of at most 64
+pub record InList (n row event : ℕ) : Type 0 where
+  pub small : n ≤ 64
+  pub row-below : row < n
+  pub event-below : event < n
+
 -- 0 where there is none, which is not so in an accepted file
 abbrev pub hut-number : Hut → ℕ
 hut-number (At hut) = hut

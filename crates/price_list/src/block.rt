@@ -29,7 +29,7 @@ fn print_rows(file: &[u8], n: usize, rows: u64)
     words::print(b"  row    hut\n");
     let mut row = 0;
     while row < n {
-        if numbers::has(rows, row) {
+        if lines::has(rows, row) {
             print_hut(row, row::hut_of(file, row));
         }
         row += 1;
@@ -43,7 +43,7 @@ fn print_events(n: usize, events: u64, wanted: bool)
     words::print(b":");
     let mut event = 0;
     while event < n {
-        if numbers::has(events, event) == wanted {
+        if lines::has(events, event) == wanted {
             words::print(b" ");
             words::print_number(event as u64);
         }
@@ -84,7 +84,7 @@ pub(crate) fn print_block(file: &[u8], pairs: Pairs)
     let events = pairs.block_columns;
     let row_count = numbers::count(n, rows);
     let event_count = numbers::count(n, events);
-    let left = n - event_count;
+    let left = numbers::count_others(n, events);
     words::print(b"NO PAIRING\n");
     print_these(row_count, b"This ", b"These ", b"fragment");
     words::print(b":\n");

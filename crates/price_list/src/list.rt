@@ -2,7 +2,7 @@
 ghost use mathlib.Core.Path.{_≡_};
 ghost use Prim.Native.Nat.{_≤_, _<_};
 ghost use Rattle.text.specs.Text.{put};
-ghost use Rattle.price_list.specs.Listed.{Listed};
+ghost use Rattle.price_list.specs.Listed.{Listed, InList};
 ghost use Rattle.price_list.specs.Lines.{pair-of, allowed-of};
 use crate::numbers;
 use crate::row;
@@ -138,7 +138,7 @@ fn put_allowed_of(
     event: usize,
     out: &mut [u8],
 ) -> usize
-    requires { ⌜ (n ≤ 64) × (row < n) × (event < n) ⌝ }
+    requires { ⌜ InList n row event ⌝ }
     ensures { λ r. ⌜ (r, now (out .exit)) ≡ put (now (out .entry)) 0 (allowed-of n (now (costs .entry)) (now (working .entry))
         (now («row_prices» .entry)) (now («column_prices» .entry)) row event) ⌝ }
 {

@@ -1,8 +1,8 @@
-// Sums of prices, and sets of lines.
+// Sums of prices, and how many lines a set has.
 ghost use mathlib.Core.Path.{_≡_};
-ghost use Prim.Native.Nat.{_≤_, _<_};
+ghost use Prim.Native.Nat.{_-_, _≤_};
 ghost use Rattle.lines.specs.Count.{count as Count·count};
-ghost use Rattle.lines.specs.Sets.{has as Sets·has};
+ghost use Rattle.lines.specs.Sets.{has};
 ghost use Rattle.price_list.specs.Listed.{Sum, SumOf};
 
 const MOST: i64 = 9_223_372_036_854_775_807;
@@ -39,25 +39,26 @@ pub(crate) fn sum(n: usize, values: &[i64; 64]) -> i64
     total
 }
 
-pub(crate) fn has(set: u64, line: usize) -> bool
-    requires { ⌜ line < 64 ⌝ }
-    ensures { λ r. ⌜ r ≡ Sets·has set line ⌝ }
-{
-    (set >> line) & 1 == 1
-}
-
 // How many of the first n lines the set has.
 pub(crate) fn count(n: usize, set: u64) -> usize
     requires { ⌜ n ≤ 64 ⌝ }
-    ensures { λ r. ⌜ r ≡ Count·count (Sets·has set) n ⌝ }
+    ensures { λ r. ⌜ r ≡ Count·count (has set) n ⌝ }
 {
     let mut counted = 0;
     let mut line = 0;
     while line < n {
-        if has(set, line) {
+        if lines::has(set, line) {
             counted += 1;
         }
         line += 1;
     }
     counted
+}
+
+// How many of them it has not.
+pub(crate) fn count_others(n: usize, set: u64) -> usize
+    requires { ⌜ n ≤ 64 ⌝ }
+    ensures { λ r. ⌜ r ≡ n - Count·count (has set) n ⌝ }
+{
+    n - count(n, set)
 }

@@ -5,11 +5,11 @@ use mathlib.Core.List.{List}
 use Prim.Native.Nat.{ℕ, _+_, _≤_, _<_}
 use native.Mathlib.Omega.{arith}
 use lib.ListN.{length, take, drop}
-use Rattle.storm_case.specs.declared.Found.{Found}
-use Rattle.storm_case.specs.declared.Found.the-variants.{Body, Cut, Unknown}
+use Rattle.records.specs.declared.Found.{Found}
+use Rattle.records.specs.declared.Found.the-variants.{Body, Cut, Unknown}
 use Rattle.storm_case.specs.declared.Hut.the-variants.{At, Absent}
-use Rattle.storm_case.specs.Records.{found, part, body}
-use Rattle.storm_case.proofs.RecordLaws.{found-fits}
+use Rattle.records.specs.Records.{found, part, body}
+use Rattle.records.proofs.RecordLaws.{found-fits}
 use Rattle.serbihun.specs.declared.case.Record.{Record}
 use Rattle.serbihun.specs.Case.{hut-number, record-at}
 

@@ -4,9 +4,9 @@ use mathlib.Core.List.{List}
 use Prim.Native.Nat.{ℕ}
 use Rattle.steps.proofs.Theorems.{only-answer}
 use Rattle.storm_case.specs.declared.pair.Pairs.{Pairs}
-use Rattle.storm_case.specs.Pair.{Room, PairPromise}
+use Rattle.storm_case.specs.Pair.{Loan, PairPromise}
 use Rattle.storm_case.proofs.OnlyPairs as given
 
-pub only-pairs : (file : List ℕ) (before : Room) {p p′ : Pairs} {after after′ : Room}
+pub only-pairs : (file : List ℕ) (before : Loan) {p p′ : Pairs} {after after′ : Loan}
     → PairPromise file before p after → PairPromise file before p′ after′ → (p ≡ p′) × (after ≡ after′)
 only-pairs = given.only-pairs (λ t before a a′ after after′ x y. only-answer x y)

@@ -1,7 +1,7 @@
 // The C face of the case reader: what a case file says, the hut of a row, and where a record's body is.
 ghost use mathlib.Core.Path.{_≡_};
 ghost use Rattle.storm_case.specs.Case.{read, hut};
-ghost use Rattle.storm_case.specs.Records.{found};
+ghost use Rattle.records.specs.Records.{found};
 ghost use Rattle.serbihun.specs.Case.{hut-number, record-at};
 use storm_case::Case;
 use storm_case::Found;

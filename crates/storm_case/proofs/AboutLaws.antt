@@ -3,80 +3,28 @@ use mathlib.Core.Path.{_≡_, refl, sym, ap, subst, _∙_}
 use mathlib.Core.Logic.{_⊎_, inl, inr}
 use mathlib.Core.Bool.{Bool, true, false, not, cond, _&&_}
 use mathlib.Core.List.{List}
-use mathlib.Core.Option.{Option, none, some}
-use Prim.Native.Nat.{ℕ, zero, _-_, _*_, _/_, _%_, _≤_, _<_}
+use mathlib.Core.Option.{some}
+use Prim.Native.Nat.{ℕ, _*_, _/_, _%_, _≤_, _<_}
 use native.Mathlib.Omega.{arith}
-use lib.Dec.{T, T-not, eqb, eqb→eq, ltb, nltb→le}
-use lib.IntN.{ℤ, pos}
+use lib.Dec.{T, eqb, ltb, nltb→le}
+use lib.IntN.{pos}
 use lib.Signed.{_≤ℤ_}
-use lib.ListN.{length, getD}
+use lib.ListN.{getD}
 use borrow.Author.Tests.{le-ltb}
-use Rattle.lines.specs.Square.{cell, square}
+use Rattle.lines.specs.Square.{square}
 use Rattle.lines.specs.Sets.{has}
-use Rattle.lines.specs.First.{any}
-use Rattle.lines.proofs.Tests.{T-true, cond-ind}
-use Rattle.lines.proofs.Firsts.{any-is}
-use Rattle.lines.proofs.Squares.{table-at, square-at}
+use Rattle.lines.proofs.Tests.{T-true}
+use Rattle.lines.proofs.Squares.{table-at, length-square, square-at}
 use Rattle.lines.proofs.Sumsℤ.{sumℤ-ext}
 use Rattle.assignment.specs.Problem.{column, AllowedPairing, Block, total}
-use Rattle.steps.specs.declared.Answer.{Answer}
 use Rattle.steps.specs.Lent.{Task, Buffers, allows, cost-at, allowed, cost, task}
 use Rattle.steps.specs.Refusal as R
-use Rattle.steps.specs.Steps as S
-use Rattle.steps.specs.Outcome.{given, judged, Outcome}
 use Rattle.steps.specs.Promise.{Fit, Promise}
 use Rattle.storm_case.specs.declared.pair.Pairs.{Pairs}
 use Rattle.storm_case.specs.Scan.{Scan}
 use Rattle.storm_case.specs.Case.{row-area, column-area, clock-error, may-pair, pair-cost, mask-byte}
 use Rattle.storm_case.specs.Pair.{front, enough, SolvedBy, clock-cost, AboutFile}
 use Rattle.storm_case.proofs.ScanLaws.{Filled}
-
--- ---- a fit input is settled as 0 or 6, unless the budget ends
-
--- the answers that are no refusals
-abbrev Settled : ℕ → Type 0
-Settled number = (number ≡ 0) ⊎ (number ≡ 6) ⊎ (number ≡ 7)
-
-abbrev Passed : R.Verdict → Type 0
-Passed (R.refused number place) = ⊥
-Passed (R.dead row) = Unit {0}
-Passed R.accepted = Unit {0}
-
-none-of : (b : ℕ → Bool) (n : ℕ) → ((q : ℕ) → q < n → T (not (b q))) → T (any b n) → ⊥
-none-of b n f z = let q = any-is b n z in T-not (b (q .0)) (f (q .0) (q .1)) (q .2)
-
-module _ (t : Task) (before : Buffers) (fit : Fit 64 t before) where
-  passed : Passed (R.verdict t 64 before)
-  unfolding R.verdict
-  passed =
-      let cells = t .n * t .n in
-      cond-ind Passed (eqb (t .n) 0) (R.refused 1 0) _ (λ z. let e = eqb→eq (t .n) 0 z in omega (arith, fit .some))
-      (λ u. cond-ind Passed (ltb 64 (t .n)) (R.refused 2 0) _ (λ z. T-not (ltb 64 (t .n)) (rw (le-ltb 64 (t .n) (fit .most)) tt) z)
-      (λ u. cond-ind Passed (not (R.lengths t before)) (R.refused 3 0) _ (λ z. T-not (R.lengths t before) z (fit .sizes))
-      (λ u. cond-ind Passed (any (R.bad-mask (t .mask)) cells) (R.refused 4 _) _ (none-of _ cells (fit .masks))
-      (λ u. cond-ind Passed (any (R.bad-cost (t .costs) (t .mask)) cells) (R.refused 5 _) _ (none-of _ cells (fit .costs))
-      (λ u. cond-ind Passed (any (R.dead-row (t .n) (t .mask)) (t .n)) (R.dead _) R.accepted (λ z. tt) (λ z. tt))))))
-
-  settled : {a : Answer} {after : Buffers} → Outcome 64 t before a after → Settled (a .number)
-  unfolding judged given
-  settled {a} {after} o = by (R.verdict t 64 before) passed (o .exact)
-    where
-      number-of : {x y : Answer} {b c : Buffers} → _≡_ {A = Option (Answer × Buffers)} (some (x, b)) (some (y, c)) → x .number ≡ y .number
-      number-of {x} {y} {b} {c} e = let q : _≡_ {A = Answer × Buffers} (x, b) (y, c) = cc in ap (λ (r : Answer × Buffers). r .0 .number) q
-
-      at-end : (m : S.Machine) (next : S.Next) → given t before m next ≡ some (a, after) → Settled (a .number)
-      at-end m S.Paired e = inl (sym (number-of e))
-      at-end m S.NoPairing e = inr (inl (sym (number-of e)))
-      at-end m S.Unfinished e = inr (inr (sym (number-of e)))
-      at-end m S.Step3 e = let z : _≡_ {A = ℕ} 0 1 = cc in absurd (omega arith)
-      at-end m S.Step4 e = let z : _≡_ {A = ℕ} 0 1 = cc in absurd (omega arith)
-      at-end m (S.Step5 i j) e = let z : _≡_ {A = ℕ} 0 1 = cc in absurd (omega arith)
-      at-end m S.Step6 e = let z : _≡_ {A = ℕ} 0 1 = cc in absurd (omega arith)
-
-      by : (v : R.Verdict) → Passed v → judged t before (o .count) v ≡ some (a, after) → Settled (a .number)
-      by (R.refused number place) p e = absurd p
-      by (R.dead row) p e = inr (inl (sym (number-of e)))
-      by R.accepted p e = let m = S.steps (t .n) (allowed t) (t .budget) (o .count) (S.start (t .n) (allowed t) (cost t)) in at-end m (m .run .next) e
 
 -- ---- the cells of a file
 
@@ -116,15 +64,17 @@ module _ (file : List ℕ) (s : Scan) where
 
   -- ---- the input is fit
 
-  module _ (full : Filled s) (before : Buffers) (right : R.lengths of-file before ≡ true) where
+  module _ (full : Filled s) (before : Buffers) (room : T (R.room (s .n * s .n) (s .n) before)) where
     fit : Fit 64 of-file before
     unfolding square R.bad-mask R.bad-cost R.out-of-range mask-byte pair-cost may-pair
     fit = record {
       some = full .some;
       most = full .small;
-      sizes = rw right tt;
-      masks = λ q h. subst (λ b. T (not (ltb 1 b))) (sym (mask-at q h)) (low (may-pair file s (q / s .n) (q % s .n)));
-      costs = λ q h. rw (mask-at q h, table-at (pos 0) (λ q. pair-cost file s (q / s .n) (q % s .n)) (s .n * s .n) q h)
+      costs-length = length-square (pair-cost file s) (s .n);
+      mask-length = length-square (mask-byte file s) (s .n);
+      room = room;
+      flags = λ q h. subst (λ b. T (not (ltb 1 b))) (sym (mask-at q h)) (low (may-pair file s (q / s .n) (q % s .n)));
+      range = λ q h. rw (mask-at q h, table-at (pos 0) (λ q. pair-cost file s (q / s .n) (q % s .n)) (s .n * s .n) q h)
           (near (eqb (row-area file s (q / s .n)) (column-area file s (q % s .n))) (ltb (s .window) (clock-error file s (q / s .n) (q % s .n))) (nltb→le _ _));
     }
       where
@@ -144,7 +94,7 @@ module _ (file : List ℕ) (s : Scan) where
 
   -- ---- the sentence about the file
 
-  module _ (full : Filled s) {before after : Buffers} {p : Pairs} (right : R.lengths of-file (front (s .n) before) ≡ true)
+  module _ (full : Filled s) {before after : Buffers} {p : Pairs} (room : T (R.room (s .n * s .n) (s .n) (front (s .n) before)))
       (solved : SolvedBy (s .n) (of-file .costs) (of-file .mask) (s .window) before p after) where
     promise : Promise 64 of-file (front (s .n) before) (solved .answer) (front (s .n) after)
     promise = solved .solver
@@ -157,9 +107,12 @@ module _ (file : List ℕ) (s : Scan) where
 
     zero-or-six : (p .number ≡ 0) ⊎ (p .number ≡ 6)
     unfolding enough
-    zero-or-six = go (settled of-file (front (s .n) before) (fit full (front (s .n) before) right) (promise .exact))
+    zero-or-six = go (promise .settled .passed (fit full (front (s .n) before) room))
       where
-        go : Settled (solved .answer .number) → (p .number ≡ 0) ⊎ (p .number ≡ 6)
+        number : ℕ
+        number = solved .answer .number
+
+        go : (number ≡ 0) ⊎ (number ≡ 6) ⊎ (number ≡ 7) → (p .number ≡ 0) ⊎ (p .number ≡ 6)
         go (inl e) = inl (same-number ∙ e)
         go (inr (inl e)) = inr (same-number ∙ e)
         go (inr (inr e)) = absurd (promise .enough (omega arith) e)

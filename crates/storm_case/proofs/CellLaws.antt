@@ -3,32 +3,26 @@ use mathlib.Core.Path.{_≡_, sym, fun-ext, _∙_}
 use mathlib.Core.Logic.{dite}
 use mathlib.Core.Bool.{Bool, true, not, cond, _&&_}
 use mathlib.Core.List.{List}
-use Prim.Native.Nat.{ℕ, _+_, _-_, _≤_, _<_, _^_}
+use Prim.Native.Nat.{ℕ, _+_, _-_, _≤_, _<_}
 use native.Mathlib.Decide.{decLt}
 use native.Mathlib.Omega.{arith}
 use lib.Dec.{T, eqb, ltb, leb}
 use lib.IntN.{ℤ, pos}
-use lib.ListN.{getD, take}
+use lib.ListN.{length, getD, take}
 use lib.Seq.{getD-take}
-use lib.Signed.{mag}
-use mir.Syntax.{w32}
-use mir.Val.{toZ, ofZ}
-use mir.Facts.{toZ-ofZ}
 use borrow.Author.Tests.{lt-ltb, le-ltb, le-leb, lt-leb, ltb-false, not-true}
 use Rattle.lines.proofs.Tests.{and-right, T-true}
-use Rattle.storm_case.specs.Records.{u16-at, u32-at}
+use Rattle.lines.proofs.Rows.{RowPassed, RowsPassed}
+use Rattle.lines.proofs.Bounds.{RowFits}
+use Rattle.storm_case.specs.Numbers.{u16-at, u32-at}
 use Rattle.storm_case.specs.Scan as D
 use Rattle.storm_case.specs.Case.{row-area, row-clock, column-area, column-clock, clock-error, may-pair, pair-cost, mask-byte}
 use Rattle.storm_case.specs.declared.scan.Scan.{Scan}
-use Rattle.storm_case.specs.View.{view-scan}
+use Rattle.storm_case.specs.View.{view-scan, Fillable}
 
 -- not above, tested from the other side
 pub not-above : (x y : ℕ) → leb x y ≡ not (ltb y x)
 not-above x y = dite (decLt y x) (λ h. rw (lt-leb x y h, lt-ltb y x h)) (λ h. rw (le-leb x y (omega arith), le-ltb y x (omega arith)))
-
--- a cost is read back from the bits that hold it
-pub back32 : (z : ℤ) → mag z < 2 ^ 31 → toZ w32 (ofZ w32 z) ≡ z
-back32 z h = toZ-ofZ (record { sfits = h })
 
 -- an allowed error is as small as the window
 pub small-error : (a b : Bool) (window error : ℕ) → window ≤ 1_000_000_000 → b ≡ (a && not (ltb window error)) → b ≡ true → error ≤ 1_000_000_000
@@ -40,6 +34,28 @@ small-error a b window error low e t =
 
 abbrev pub full : ℕ → ℕ → List ℕ → List ℕ → D.Scan
 full n window fragments events = D.scan-with 0 n window (take n fragments) (take n events)
+
+-- the records of a row and of a column lie within the file
+module _ {A B : Type 0} {file : List ℕ} {s : Scan} {fragments events : List ℕ} {costs : List A} {mask : List B}
+    (f : Fillable file s fragments events costs mask) where
+  pub row-inside : (i : ℕ) → i < s .n → getD fragments i 0 + 9 ≤ length file
+  row-inside i h = f .consistent .rows .inside i (omega (arith, f .all-rows))
+
+  pub column-inside : (j : ℕ) → j < s .n → getD events j 0 + 7 ≤ length file
+  column-inside j h = f .consistent .columns .inside j (omega (arith, f .all-columns))
+
+-- a row whose first columns are done in both buffers
+pub record RowDone (file : List ℕ) (n window : ℕ) (fragments events : List ℕ) (row : ℕ) (costs₀ costs : List ℤ) (mask₀ mask : List ℕ) (column : ℕ) : Type 0 where
+  pub fits : RowFits n row
+  pub within : column ≤ n
+  pub costs-done : RowPassed (pos 0) n row (λ j w. pair-cost file (full n window fragments events) row j) costs₀ costs column
+  pub mask-done : RowPassed 0 n row (λ j w. mask-byte file (full n window fragments events) row j) mask₀ mask column
+
+-- the first rows, done in both buffers
+pub record RowsDone (file : List ℕ) (n : ℕ) (s : D.Scan) (costs₀ costs : List ℤ) (mask₀ mask : List ℕ) (row : ℕ) : Type 0 where
+  pub within : row ≤ n
+  pub costs-done : RowsPassed (pos 0) n (λ i j w. pair-cost file s i j) costs₀ costs row
+  pub mask-done : RowsPassed 0 n (λ i j w. mask-byte file s i j) mask₀ mask row
 
 -- such a scan of the code's, seen as the definition's: where it stands does not matter to the cells
 pub full-view : (file : List ℕ) (s : Scan) (fragments events : List ℕ) → s .fragments ≡ s .n → s .events ≡ s .n

@@ -1,102 +1,31 @@
 -- The first bytes of a file decide: cut at 1,040 bytes or more, so at 4,096, it is judged, read and answered as the whole file is.
-use mathlib.Core.Path.{_≡_, refl, sym, ap, subst, _∙_}
-use mathlib.Core.Logic.{dite}
-use mathlib.Core.Bool.{Bool, cond, _&&_}
-use mathlib.Core.List.{List, [], _∷_, _++_}
-use Prim.Native.Nat.{ℕ, zero, suc, _+_, _-_, _*_, _≤_, _<_, min}
-use native.Mathlib.Decide.{decLt}
+use mathlib.Core.Path.{_≡_, refl, sym, subst, _∙_}
+use mathlib.Core.Bool.{Bool, cond}
+use mathlib.Core.List.{List, [], _∷_}
+use Prim.Native.Nat.{ℕ, zero, suc, _+_, _*_, _≤_, _<_, min}
 use native.Mathlib.Omega.{arith}
-use lib.Dec.{eqb, eqb→eq, ltb, ltb→lt, lt→ltb}
+use lib.Dec.{eqb, eqb→eq}
 use lib.IntN.{ℤ}
-use lib.ListN.{length, getD, take, drop, replicate, length-append, length-take, length-replicate}
-use lib.Seq.{take-all, take-take, getD-take, getD-at}
-use Rattle.lines.proofs.Tests.{T-same, cond-ind, eqb-yes}
-use Rattle.storm_case.specs.declared.Found.{Found}
-use Rattle.storm_case.specs.declared.Found.the-variants.{Body, Cut, Unknown}
-use Rattle.storm_case.specs.Records.{known, body-length, found, part, body, u16-at, u32-at}
+use lib.ListN.{length, take, length-append, length-take}
+use lib.Seq.{take-all, getD-take}
+use Rattle.lines.proofs.Tests.{T-same, eqb-yes}
+use Rattle.records.specs.declared.Found.{Found}
+use Rattle.records.specs.declared.Found.the-variants.{Body, Cut, Unknown}
+use Rattle.records.specs.Records.{found}
+use Rattle.records.proofs.Cuts.{cut-found}
+use Rattle.storm_case.specs.Numbers.{u16-at, u32-at}
 use Rattle.storm_case.specs.Scan as D
-use Rattle.storm_case.specs.Case.{case, case-of, read, hut-in, hut}
-use Rattle.storm_case.proofs.RecordLaws.{past-end, short, whole, found-whole}
+use Rattle.storm_case.specs.Case.{case, case-of, has-cells, read, hut-in, hut}
 use Rattle.storm_case.proofs.OneRecord.{Does, refuses, sizes, adds-row, adds-column, ends, record-does}
 use Rattle.storm_case.proofs.ScanLaws.{stays-refused, stays-accepted, never-more}
 
--- ---- what is found in a cut file
+-- ---- one record
 
--- a part that lies in front of the cut
-part-before : {A : Type 0} (n i k : ℕ) (xs : List A) → i + n ≤ k → take n (drop i (take k xs)) ≡ take n (drop i xs)
-part-before n zero k xs h = take-take n k xs (omega arith)
-part-before n (suc i) zero xs h = absurd (omega arith)
-part-before n (suc i) (suc k) [] h = refl
-part-before n (suc i) (suc k) (x ∷ xs) h = part-before n i k xs (omega arith)
-
-body-short : (kind : ℕ) → body-length kind ≤ 8
-unfolding body-length
-body-short kind =
-    cond-ind (λ n. n ≤ 8) (eqb kind 1) 6 (cond (eqb kind 2) 8 (cond (eqb kind 3) 6 0)) (λ t. omega arith)
-    (λ t. cond-ind (λ n. n ≤ 8) (eqb kind 2) 8 (cond (eqb kind 3) 6 0) (λ t. omega arith)
-    (λ t. cond-ind (λ n. n ≤ 8) (eqb kind 3) 6 0 (λ t. omega arith) (λ t. omega arith)))
-
--- both lengths lie on the same side
-same-side : (k l a b : ℕ) → a + b ≤ k → ltb (min k l - a) b ≡ ltb (l - a) b
-same-side k l a b h =
-    T-same (ltb (min k l - a) b) (ltb (l - a) b) (λ t. lt→ltb (l - a) b (omega (arith, ltb→lt (min k l - a) b t)))
-    (λ t. lt→ltb (min k l - a) b (omega (arith, ltb→lt (l - a) b t)))
-
-same-reach : (k l a : ℕ) → a ≤ k → ltb (min k l) a ≡ ltb l a
-same-reach k l a h =
-    T-same (ltb (min k l) a) (ltb l a) (λ t. lt→ltb l a (omega (arith, ltb→lt (min k l) a t))) (λ t. lt→ltb (min k l) a (omega (arith, ltb→lt l a t)))
-
+-- the end lies in front of the cut, or both files go on
 same-end : (k l a : ℕ) → a < k → eqb a (min k l) ≡ eqb a l
 same-end k l a h =
     T-same (eqb a (min k l)) (eqb a l) (λ t. eqb-yes a l (omega (arith, eqb→eq a (min k l) t)))
     (λ t. eqb-yes a (min k l) (omega (arith, eqb→eq a l t)))
-
-module _ (k : ℕ) (file : List ℕ) where
-  -- a record takes at most nine bytes
-  pub cut-found : (at : ℕ) → at + 9 ≤ k → found (take k file) at ≡ found file at
-  unfolding found
-  cut-found at h =
-      let kind = getD file at 0 in
-      rw (
-        getD-take k file at 0 (omega arith),
-        length-take k file,
-        same-reach k (length file) (at + 1) (omega arith),
-        same-side k (length file) (at + 1) (body-length kind) (omega (arith, body-short kind)),
-      )
-
-  pub cut-body : (at : ℕ) → at + 9 ≤ k → body (take k file) at ≡ body file at
-  unfolding body part
-  cut-body at h = rw (cut-found at h) (go (found file at) (λ n e. found-whole file at e .size))
-    where
-      go : (f : Found) → ((n : ℕ) → f ≡ Body n → n ≡ body-length (getD file at 0)) → part (take k file) at f ≡ part file at f
-      go (Body n) size = part-before n (at + 1) k file (omega (arith, size n refl, body-short (getD file at 0)))
-      go Cut size = refl
-      go Unknown size = refl
-
--- Nine bytes and no fewer: of a file that ends in a fragment, a cut that takes its last byte loses it.
-module _ (k at : ℕ) (h : k < at + 9) where
-  abbrev ends-in-fragment : List ℕ
-  ends-in-fragment = replicate at 0 ++ (2 ∷ replicate 8 0)
-
-  its-length : length ends-in-fragment ≡ at + 9
-  its-length = length-append (replicate at 0) (2 ∷ replicate 8 0) ∙ ap (λ n. n + 9) (length-replicate at 0)
-
-  its-kind : getD ends-in-fragment at 0 ≡ 2
-  its-kind = getD-at (replicate at 0) 2 (replicate 8 0) 0 at (length-replicate at 0)
-
-  pub found-lost : (found ends-in-fragment at ≡ Body 8) × (found (take k ends-in-fragment) at ≡ Cut)
-  unfolding body-length known
-  found-lost = (
-    sym (whole ends-in-fragment at (omega (arith, its-length)) (rw its-kind) (rw its-kind) (omega (arith, its-length))),
-    dite (decLt at k)
-        (λ l.
-        let kind : getD (take k ends-in-fragment) at 0 ≡ 2 = getD-take k ends-in-fragment at 0 l ∙ its-kind in
-        let long = length-take k ends-in-fragment in
-        sym (short (take k ends-in-fragment) at (omega (arith, its-length, long)) (rw kind) {m = 8} (rw kind) (omega (arith, its-length, long))))
-        (λ l. sym (past-end (take k ends-in-fragment) at (omega (arith, length-take k ends-in-fragment)))),
-  )
-
--- ---- one record
 
 module _ (k : ℕ) (file : List ℕ) (s : D.Scan) (h : s .at + 9 ≤ k) where
   cut-u16 : (p : ℕ) → p + 1 < k → u16-at (take k file) p ≡ u16-at file p
@@ -111,31 +40,27 @@ module _ (k : ℕ) (file : List ℕ) (s : D.Scan) (h : s .at + 9 ≤ k) where
   unfolding D.size D.bad-size
   cut-size = rw (cut-u16 (s .at + 1) (omega arith), cut-u32 (s .at + 3) (omega arith))
 
-  cut-fragment : D.fragment (take k file) s ≡ D.fragment file s
-  unfolding D.fragment
-  cut-fragment = refl
-
-  cut-event : D.event (take k file) s ≡ D.event file s
-  unfolding D.event
-  cut-event = refl
-
   cut-end : D.end (take k file) s ≡ D.end file s
   unfolding D.end
   cut-end = rw (length-take k file, same-end k (length file) (s .at + 1) (omega arith))
+
+  cut-kind : D.by-kind (take k file) s ≡ D.by-kind file s
+  unfolding D.by-kind
+  cut-kind = rw (getD-take k file (s .at) 0 (omega arith), cut-size, cut-end)
 
   cut-record : D.judge-record (take k file) s ≡ D.judge-record file s
   unfolding D.judge-record D.record-of
   cut-record = rw (cut-found k file (s .at) h) (go (found file (s .at)))
     where
       go : (f : Found) → D.record-of (take k file) s f ≡ D.record-of file s f
-      go (Body n) = rw (getD-take k file (s .at) 0 (omega arith), cut-size, cut-fragment, cut-event, cut-end)
+      go (Body n) = cut-kind
       go Cut = refl
       go Unknown = refl
 
 -- ---- how far the scan comes
 
 -- where the next record stands: a size takes 7 bytes, a fragment 9, an event 7
-record Paced (s : D.Scan) : Type 0 where
+record Standing (s : D.Scan) : Type 0 where
   first : s .n ≡ 0 → s .at ≡ 0
   small : s .n ≤ 64
   few-rows : length (s .fragments) ≤ s .n
@@ -143,12 +68,12 @@ record Paced (s : D.Scan) : Type 0 where
   pace : s .at ≤ 7 + 9 * length (s .fragments) + 7 * length (s .events)
 
 -- after one record: an accepted file ends there, and a refusal lies no further on
-abbrev Next : List ℕ → D.Judged → Type 0
-Next file (D.more t) = Paced t
-Next file (D.refused number place) = (21 ≤ number) × (number ≤ 26) × (place ≤ 1032)
-Next file (D.accepted t) = Paced t × (length file ≡ t .at + 1)
+abbrev Ahead : List ℕ → D.Judged → Type 0
+Ahead file (D.more t) = Standing t
+Ahead file (D.refused number place) = (21 ≤ number) × (number ≤ 26) × (place ≤ 1032)
+Ahead file (D.accepted t) = Standing t × (length file ≡ t .at + 1)
 
-next : {file : List ℕ} {s : D.Scan} {j : D.Judged} → Paced s → Does file s j → Next file j
+next : {file : List ℕ} {s : D.Scan} {j : D.Judged} → Standing s → Does file s j → Ahead file j
 next {s = s} h (refuses number place r) = (r .low, r .high, omega (arith, r .near, h .pace, h .few-rows, h .few-columns, h .small))
 next {s = s} h (sizes r) = record {
   first = λ e. absurd (r .some e);
@@ -177,34 +102,34 @@ next {s = s} h (adds-column r) =
     }
 next h (ends r) = (h, sym (r .last))
 
-start-paced : Paced (D.scan-with 0 0 0 [] [])
-start-paced = record { first = λ e. refl; small = omega arith; few-rows = omega arith; few-columns = omega arith; pace = omega arith }
+start-ahead : Standing D.start
+start-ahead = record { first = λ e. refl; small = omega arith; few-rows = omega arith; few-columns = omega arith; pace = omega arith }
 
 -- ---- record after record
 
-paced-from : (file : List ℕ) (m : ℕ) (j : D.Judged) → Next file j → Next file (D.judge-from file m j)
+ahead-from : (file : List ℕ) (m : ℕ) (j : D.Judged) → Ahead file j → Ahead file (D.judge-from file m j)
 unfolding D.judge-from
-paced-from file zero j h = h
-paced-from file (suc m) (D.more s) h = paced-from file m (D.judge-record file s) (next h (record-does file s))
-paced-from file (suc m) (D.refused number place) h = h
-paced-from file (suc m) (D.accepted s) h = h
+ahead-from file zero j h = h
+ahead-from file (suc m) (D.more s) h = ahead-from file m (D.judge-record file s) (next h (record-does file s))
+ahead-from file (suc m) (D.refused number place) h = h
+ahead-from file (suc m) (D.accepted s) h = h
 
-judged-paced : (file : List ℕ) → Next file (D.judged file)
+judged-ahead : (file : List ℕ) → Ahead file (D.judged file)
 unfolding D.judged
-judged-paced file = paced-from file (length file + 1) (D.more (D.scan-with 0 0 0 [] [])) start-paced
+judged-ahead file = ahead-from file (length file + 1) (D.more D.start) start-ahead
 
 -- an accepted file has at most 1,032 bytes
 pub accepted-short : (file : List ℕ) {s : D.Scan} → D.judged file ≡ D.accepted s → length file ≤ 1032
 accepted-short file {s} e =
-    let h : Next file (D.accepted s) = subst (Next file) e (judged-paced file) in
+    let h : Ahead file (D.accepted s) = subst (Ahead file) e (judged-ahead file) in
     omega (arith, h .1, h .0 .pace, h .0 .few-rows, h .0 .few-columns, h .0 .small)
 
 -- a refusal has one of the numbers 21 to 26, and a place of at most 1,032
 pub refused-early : (file : List ℕ) {number place : ℕ} → D.judged file ≡ D.refused number place → (21 ≤ number) × (number ≤ 26) × (place ≤ 1032)
-refused-early file e = subst (Next file) e (judged-paced file)
+refused-early file e = subst (Ahead file) e (judged-ahead file)
 
 -- the same verdict from as many records
-same-from : (k : ℕ) (file : List ℕ) → 1040 ≤ k → (m : ℕ) (j : D.Judged) → Next file j → D.judge-from (take k file) m j ≡ D.judge-from file m j
+same-from : (k : ℕ) (file : List ℕ) → 1040 ≤ k → (m : ℕ) (j : D.Judged) → Ahead file j → D.judge-from (take k file) m j ≡ D.judge-from file m j
 unfolding D.judge-from
 same-from k file b zero j h = refl
 same-from k file b (suc m) (D.more s) h =
@@ -231,10 +156,10 @@ verdict-stays file (suc m) (suc l) (D.accepted s) h d = refl
 pub cut-judged : (k : ℕ) → 1040 ≤ k → (file : List ℕ) → D.judged (take k file) ≡ D.judged file
 unfolding D.judged
 cut-judged k b file =
-    let start = D.more (D.scan-with 0 0 0 [] []) in
+    let start = D.more D.start in
     let fewer : length (take k file) + 1 ≤ length file + 1 = omega (arith, length-take k file) in
     sym (verdict-stays (take k file) (length (take k file) + 1) (length file + 1) start fewer (λ s e. never-more (take k file) e))
-    ∙ same-from k file b (length file + 1) start start-paced
+    ∙ same-from k file b (length file + 1) start start-ahead
 
 module _ (k : ℕ) (b : 1040 ≤ k) (file : List ℕ) where
   -- an accepted file is not cut
@@ -246,7 +171,7 @@ module _ (k : ℕ) (b : 1040 ≤ k) (file : List ℕ) where
   cut-read costs mask = rw (cut-judged k b file) (go (D.judged file) refl)
     where
       room : Bool
-      room = eqb (length costs) 4096 && eqb (length mask) 4096
+      room = has-cells (length costs) (length mask)
 
       go : (j : D.Judged) → D.judged file ≡ j
           → cond room (case-of (take k file) costs mask j) (case 20 0 0 0, costs, mask)
@@ -271,10 +196,3 @@ first-bytes = cut-judged 4096 (omega arith)
 pub same-scan : (file : List ℕ) (costs : List ℤ) (mask : List ℕ)
     → (read (take 4096 file) costs mask ≡ read file costs mask) × ((i : ℕ) → hut (take 4096 file) i ≡ hut file i)
 same-scan file costs mask = (cut-read 4096 (omega arith) file costs mask, cut-hut 4096 (omega arith) file)
-
--- up to offset 4,087; from 4,088 on a fragment is lost (`found-lost`)
-pub first-found : (file : List ℕ) (at : ℕ) → at ≤ 4087 → found (take 4096 file) at ≡ found file at
-first-found file at h = cut-found 4096 file at (omega arith)
-
-pub first-body : (file : List ℕ) (at : ℕ) → at ≤ 4087 → body (take 4096 file) at ≡ body file at
-first-body file at h = cut-body 4096 file at (omega arith)

@@ -6,8 +6,8 @@ use native.Mathlib.Nat.{add-mul-mod-self-left, add-mul-div-left}
 use native.Mathlib.Omega.{arith}
 use lib.ListN.{length, getD, drop}
 use lib.Seq.{getD-drop}
-use Rattle.storm_case.specs.Records.{u16-at, u32-at}
-use Rattle.storm_case.specs.Format.{Fragment, Event, row, little-endian, line-bytes, RowFits, ColumnFits}
+use Rattle.storm_case.specs.Numbers.{AreBytes, u16-at, u32-at}
+use Rattle.storm_case.specs.Format.{Fragment, Event, row, little-endian, line-bytes, FragmentFits, EventFits}
 
 -- ---- a number
 
@@ -60,7 +60,7 @@ abbrev pub column-in : List ℕ → Event
 column-in bytes = record { area = u16-at bytes 1; clock = u32-at bytes 3 }
 
 -- what is written reads back
-pub row-back : (f : Fragment) (rest : List ℕ) → RowFits f → row-in (line-bytes (row f) ++ rest) ≡ f
+pub row-back : (f : Fragment) (rest : List ℕ) → FragmentFits f → row-in (line-bytes (row f) ++ rest) ≡ f
 unfolding line-bytes little-endian u16-at u32-at
 row-back f rest h =
     let p = back16 (f .hut) (h .hut) in
@@ -77,22 +77,19 @@ six-back kind x y rest hx hy =
     let q = back32 y hy in
     λ i. record { area = p i; clock = q i }
 
--- bytes, wherever one looks
-abbrev pub Small : List ℕ → Type 0
-Small bytes = (i : ℕ) → getD bytes i 0 < 256
-
-small16 : (bytes : List ℕ) (p : ℕ) → Small bytes → u16-at bytes p < 65_536
+-- numbers that fit their bytes
+pub small16 : (bytes : List ℕ) (p : ℕ) → AreBytes bytes → u16-at bytes p < 65_536
 unfolding u16-at
 small16 bytes p h = omega (arith, h p, h (p + 1))
 
-small32 : (bytes : List ℕ) (p : ℕ) → Small bytes → u32-at bytes p < 4_294_967_296
+small32 : (bytes : List ℕ) (p : ℕ) → AreBytes bytes → u32-at bytes p < 4_294_967_296
 unfolding u32-at
 small32 bytes p h = omega (arith, small16 bytes p h, small16 bytes (p + 2) h)
 
-pub row-fits : (bytes : List ℕ) → Small bytes → RowFits (row-in bytes)
+pub row-fits : (bytes : List ℕ) → AreBytes bytes → FragmentFits (row-in bytes)
 row-fits bytes h = record { hut = small16 bytes 1 h; area = small16 bytes 3 h; clock = small32 bytes 5 h }
 
-pub column-fits : (bytes : List ℕ) → Small bytes → ColumnFits (column-in bytes)
+pub column-fits : (bytes : List ℕ) → AreBytes bytes → EventFits (column-in bytes)
 column-fits bytes h = record { area = small16 bytes 1 h; clock = small32 bytes 3 h }
 
 -- the first bytes one by one, then the rest
@@ -106,7 +103,7 @@ one-by-one (suc k) [] h = absurd (omega arith)
 one-by-one (suc k) (x ∷ bytes) h = ap (λ (l : List ℕ). x ∷ l) (one-by-one k bytes (omega arith))
 
 -- a record of its kind and length is what is written of what it says
-module _ (bytes : List ℕ) (small : Small bytes) where
+module _ (bytes : List ℕ) (small : AreBytes bytes) where
   two-from : (p : ℕ) → little-endian 2 (u16-at bytes p) ≡ getD bytes p 0 ∷ getD bytes (p + 1) 0 ∷ []
   unfolding u16-at
   two-from p = two-bytes (getD bytes p 0) (getD bytes (p + 1) 0) (small p) (small (p + 1))

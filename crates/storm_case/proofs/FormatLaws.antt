@@ -1,24 +1,23 @@
 -- Theorem: the judgement accepts exactly the well-formed cases, and says what they say.
 use mathlib.Core.Path.{_≡_, refl, sym, ap, ap₂, subst₂, _∙_}
-use mathlib.Core.Logic.{_≢_, dite, _↔_}
+use mathlib.Core.Logic.{_≢_, _↔_}
 use mathlib.Core.List.{List, [], _∷_, _++_}
 use Prim.Native.Nat.{ℕ, zero, suc, _+_}
-use native.Mathlib.Decide.{decLt}
 use native.Mathlib.Numerals.{add-one}
 use native.Mathlib.Omega.{arith}
-use lib.ListN.{length, drop, length-drop, drop-of-length-le, List·getD-eq-default}
+use lib.ListN.{length, drop, length-drop, drop-of-length-le}
 use lib.Seq.{drop-cons, drop-drop, getD-drop}
-use Rattle.storm_case.specs.Records.{u16-at, u32-at}
+use Rattle.storm_case.specs.Numbers.{AreBytes, u16-at, u32-at}
 use Rattle.storm_case.specs.Scan as D
 use Rattle.storm_case.specs.Format.{Line, row, column, little-endian, line-bytes, lines-bytes, encode}
-use Rattle.storm_case.specs.Format.{AreBytes, AllFit, WellFormed, Tells, Accepts, Reads, IsCase}
+use Rattle.storm_case.specs.Format.{AllFit, WellFormed, Matches, Accepts, Reads, IsCase}
 use Rattle.storm_case.proofs.Samples.{example}
 use Rattle.storm_case.proofs.ScanLaws.{good-size, Filled, stays-refused, stays-accepted, accepted-filled}
 use Rattle.storm_case.proofs.OneRecord.{Does, refuses, sizes, adds-row, adds-column, ends, record-does}
-use Rattle.storm_case.proofs.FormatBytes.{column-in, six-back, Small, row-fits, column-fits, row-written, six-written}
+use Rattle.storm_case.proofs.FormatBytes.{column-in, six-back, row-fits, column-fits, row-written, six-written}
 use Rattle.storm_case.proofs.FormatScan.{row-from, column-from, first-kind, Further, no-further, row-further, column-further}
-use Rattle.storm_case.proofs.FormatScan.{further-tells, further-well-formed}
-use Rattle.storm_case.proofs.FormatTaken.{Taken, size-taken, lines-taken, lines-short}
+use Rattle.storm_case.proofs.FormatScan.{further-matches, further-well-formed}
+use Rattle.storm_case.proofs.FormatTaken.{LinesTaken, size-taken, lines-taken, lines-short}
 
 -- ---- what is accepted is well formed
 
@@ -33,8 +32,8 @@ record Rest (file : List ℕ) (s t : D.Scan) : Type 0 where
 not-accepted : (file : List ℕ) (k number place : ℕ) {t : D.Scan} → D.judge-from file k (D.refused number place) ≡ D.accepted t → ⊥
 not-accepted file k number place e = let z : _≡_ {A = ℕ} 0 1 = cc (stays-refused file k number place) in omega arith
 
-module _ (file : List ℕ) (small : Small file) where
-  small-from : (p : ℕ) → Small (drop p file)
+module _ (file : List ℕ) (small : AreBytes file) where
+  small-from : (p : ℕ) → AreBytes (drop p file)
   small-from p i = rw (getD-drop p file i 0) (small (p + i))
 
   rest-of : (t : D.Scan) (k : ℕ) (s : D.Scan) → s .n ≢ 0 → D.judge-from file k (D.more s) ≡ D.accepted t → Rest file s t
@@ -49,7 +48,7 @@ module _ (file : List ℕ) (small : Small file) where
       go (adds-row r) q rec =
           let h = rec _ some q in
           let long = length-drop (s .at) file in
-          let here = row-written (drop (s .at) file) (small-from (s .at)) (omega (arith, long, r .fits)) (first-kind file (s .at) ∙ r .kind) in
+          let here = row-written (drop (s .at) file) (small-from (s .at)) (omega (arith, long, r .fits)) (first-kind file (s .at) ∙ r .kind-is) in
           record {
             lines = row (row-from file (s .at)) ∷ h .lines;
             written = here ∙ ap (λ (l : List ℕ). line-bytes (row (row-from file (s .at))) ++ l) (drop-drop 9 (s .at) file ∙ h .written);
@@ -59,7 +58,7 @@ module _ (file : List ℕ) (small : Small file) where
       go (adds-column r) q rec =
           let h = rec _ some q in
           let long = length-drop (s .at) file in
-          let here = six-written (drop (s .at) file) (small-from (s .at)) (omega (arith, long, r .fits)) (first-kind file (s .at) ∙ r .kind) in
+          let here = six-written (drop (s .at) file) (small-from (s .at)) (omega (arith, long, r .fits)) (first-kind file (s .at) ∙ r .kind-is) in
           record {
             lines = column (column-from file (s .at)) ∷ h .lines;
             written = here ∙ ap (λ (l : List ℕ). line-bytes (column (column-from file (s .at))) ++ l) (drop-drop 7 (s .at) file ∙ h .written);
@@ -76,32 +75,25 @@ module _ (file : List ℕ) (small : Small file) where
             further = no-further file s;
           })
 
--- before the first record
-abbrev start : D.Scan
-start = D.scan-with 0 0 0 [] []
-
 module _ (file : List ℕ) (bytes : AreBytes file) where
-  are-small : Small file
-  are-small i = dite (decLt i (length file)) (λ l. bytes i l) (λ l. rw (List·getD-eq-default file 0 {n = i} (omega arith)) (omega arith))
-
   -- the size and the window are named by the scan itself
   reads : {s : D.Scan} {n window : ℕ} {lines : List Line} → s .n ≡ n → s .window ≡ window → WellFormed n window lines
-      → file ≡ encode n window lines → Tells file s n window lines → Reads file s
+      → file ≡ encode n window lines → Matches file s n window lines → Reads file s
   reads {s} {lines = lines} n w f e t = record {
     lines = lines;
     well-formed = subst₂ (λ a b. WellFormed a b lines) (sym n) (sym w) f;
     written = e ∙ ap₂ (λ a b. encode a b lines) (sym n) (sym w);
-    tells = subst₂ (λ a b. Tells file s a b lines) (sym n) (sym w) t;
+    matches = subst₂ (λ a b. Matches file s a b lines) (sym n) (sym w) t;
   }
 
-  first-line : (k : ℕ) {j : D.Judged} {s : D.Scan} → Does file start j → D.judge-from file k j ≡ D.accepted s → Filled s → Reads file s
+  first-line : (k : ℕ) {j : D.Judged} {s : D.Scan} → Does file D.start j → D.judge-from file k j ≡ D.accepted s → Filled s → Reads file s
   unfolding encode
   first-line k (refuses number place r) q full = absurd (not-accepted file k number place q)
   first-line k {s = s} (sizes r) q full =
-      let h = rest-of file are-small s k _ (r .some) q in
+      let h = rest-of file bytes s k _ (r .some) q in
       let size : List ℕ = little-endian 2 (u16-at file 1) ++ little-endian 4 (u32-at file 3) in
       reads (h .further .same-n) (h .further .same-window) (further-well-formed file (h .further) full (h .fit))
-      (six-written file are-small (r .fits) (r .kind) ∙ ap (λ (l : List ℕ). 1 ∷ (size ++ l)) (h .written)) (further-tells file (h .further) full)
+      (six-written file bytes (r .fits) (r .kind) ∙ ap (λ (l : List ℕ). 1 ∷ (size ++ l)) (h .written)) (further-matches file (h .further) full)
   first-line k (adds-row r) q full = absurd (r .some refl)
   first-line k (adds-column r) q full = absurd (r .some refl)
   first-line k (ends r) q full = absurd (r .some refl)
@@ -109,8 +101,8 @@ module _ (file : List ℕ) (bytes : AreBytes file) where
   pub accepted-well-formed : {s : D.Scan} → D.judged file ≡ D.accepted s → Reads file s
   unfolding D.judged D.judge-from
   accepted-well-formed e =
-      first-line (length file) (record-does file start)
-      (ap (λ k. D.judge-from file k (D.more start)) (sym (add-one (length file))) ∙ e) (accepted-filled file e)
+      first-line (length file) (record-does file D.start)
+      (ap (λ k. D.judge-from file k (D.more D.start)) (sym (add-one (length file))) ∙ e) (accepted-filled file e)
 
 -- ---- what is well formed is accepted
 
@@ -128,12 +120,12 @@ module _ {n window : ℕ} {lines : List Line} (h : WellFormed n window lines) wh
   reads-window : window ≡ u32-at file 3
   reads-window = sym (ap (λ e. e .clock) size-back)
 
-  first-taken : D.judge-record file start ≡ D.more (D.scan-with 7 (u16-at file 1) (u32-at file 3) [] [])
+  first-taken : D.judge-record file D.start ≡ D.more (D.with-size D.start (u16-at file 1) (u32-at file 3))
   unfolding encode little-endian
   first-taken =
-      size-taken file start refl refl (good-size file start reads-n reads-window (omega (arith, h .some)) (h .small) (h .low)) refl (omega arith)
+      size-taken file D.start refl refl (good-size file D.start reads-n reads-window (omega (arith, h .some)) (h .small) (h .low)) refl (omega arith)
 
-  rest-taken : Taken file (length file) (D.scan-with 7 (u16-at file 1) (u32-at file 3) [] []) lines
+  rest-taken : LinesTaken file (length file) (D.with-size D.start (u16-at file 1) (u32-at file 3)) lines
   unfolding encode little-endian
   rest-taken =
       lines-taken file lines (length file) _ refl
@@ -147,17 +139,17 @@ module _ {n window : ℕ} {lines : List Line} (h : WellFormed n window lines) wh
   verdict : D.judged file ≡ D.accepted (rest-taken .scan)
   unfolding D.judged D.judge-from
   verdict =
-      ap (λ k. D.judge-from file k (D.more start)) (add-one (length file))
+      ap (λ k. D.judge-from file k (D.more D.start)) (add-one (length file))
       ∙ ap (D.judge-from file (length file)) first-taken
       ∙ rest-taken .verdict
 
-  tells : Tells file (rest-taken .scan) n window lines
-  tells =
-      subst₂ (λ a b. Tells file (rest-taken .scan) a b lines) (sym reads-n) (sym reads-window)
-      (further-tells file (rest-taken .further) (accepted-filled file verdict))
+  matches : Matches file (rest-taken .scan) n window lines
+  matches =
+      subst₂ (λ a b. Matches file (rest-taken .scan) a b lines) (sym reads-n) (sym reads-window)
+      (further-matches file (rest-taken .further) (accepted-filled file verdict))
 
   pub well-formed-accepted : Accepts n window lines
-  well-formed-accepted = record { scan = rest-taken .scan; verdict = verdict; tells = tells }
+  well-formed-accepted = record { scan = rest-taken .scan; verdict = verdict; matches = matches }
 
 -- ---- both ways
 

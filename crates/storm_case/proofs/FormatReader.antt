@@ -4,7 +4,6 @@ use mathlib.Core.Logic.{_↔_}
 use mathlib.Core.Bool.{Bool, true, cond, not, _&&_}
 use mathlib.Core.List.{List}
 use Prim.Native.Nat.{ℕ, _+_, _-_, _*_, _≤_, _<_}
-use native.Mathlib.Nat.{mul-le-mul}
 use native.Mathlib.Omega.{arith}
 use lib.Dec.{T, not-T, eqb, eqb→eq, ltb, nltb→le}
 use lib.IntN.{ℤ, pos}
@@ -16,10 +15,12 @@ use Rattle.lines.proofs.Squares.{place-lt, length-square, square-at}
 use Rattle.lines.proofs.Tests.{T-false, and-left, and-right}
 use Rattle.storm_case.specs.declared.Case.{Case}
 use Rattle.storm_case.specs.declared.Hut.the-variants.{At, Absent}
+use Rattle.storm_case.specs.Numbers.{AreBytes}
 use Rattle.storm_case.specs.Scan as D
-use Rattle.storm_case.specs.Case.{clock-error, may-pair, pair-cost, mask-byte, filled, case, case-of, read, hut-in, hut}
-use Rattle.storm_case.specs.Format.{Fragment, Event, Line, encode, AreBytes, WellFormed, IsCase, row-at, column-at, Tells}
+use Rattle.storm_case.specs.Case.{clock-error, may-pair, pair-cost, mask-byte, filled, case, case-of, has-cells, read, hut-in, hut}
+use Rattle.storm_case.specs.Format.{Fragment, Event, Line, encode, WellFormed, IsCase, row-at, column-at, Matches}
 use Rattle.storm_case.specs.Format.{Allowed, PairIs, ReadAs}
+use Rattle.storm_case.proofs.Fronts.{cells-fit}
 use Rattle.storm_case.proofs.ScanLaws.{never-more}
 use Rattle.storm_case.proofs.Decides.{refused-early}
 use Rattle.storm_case.proofs.FormatLaws.{accepted-exactly, well-formed-accepted}
@@ -77,33 +78,30 @@ module _ {n window : ℕ} {lines : List Line} (h : WellFormed n window lines) wh
   abbrev scan : D.Scan
   scan = well-formed-accepted h .scan
 
-  abbrev tells : Tells file scan n window lines
-  tells = well-formed-accepted h .tells
+  abbrev matches : Matches file scan n window lines
+  matches = well-formed-accepted h .matches
 
   cells-are : (i j : ℕ) → i < n → j < n → PairIs window (row-at lines i) (column-at lines j) (pair-cost file scan i j) (mask-byte file scan i j)
   unfolding pair-cost mask-byte may-pair clock-error
   cells-are i j hi hj = rw (
-    tells .window-is,
-    tells .row-area-is i hi,
-    tells .row-clock-is i hi,
-    tells .column-area-is j hj,
-    tells .column-clock-is j hj,
+    matches .window-is,
+    matches .row-area-is i hi,
+    matches .row-clock-is i hi,
+    matches .column-area-is j hj,
+    matches .column-clock-is j hj,
   ) (pair-rule window (row-at lines i) (column-at lines j))
 
   module _ (costs : List ℤ) (mask : List ℕ) (lc : length costs ≡ 4096) (lm : length mask ≡ 4096) where
     answer-is : read file costs mask ≡ (case 0 0 n window, filled n (pair-cost file scan) costs, filled n (mask-byte file scan) mask)
-    unfolding read case-of
+    unfolding read has-cells case-of
     answer-is =
         rw (eq-eqb (length costs) 4096 lc, eq-eqb (length mask) 4096 lm, well-formed-accepted h .verdict)
-        (ap₂ (λ a b. (case 0 0 a b, filled a (pair-cost file scan) costs, filled a (mask-byte file scan) mask)) (tells .size) (tells .window-is))
-
-    cells-fit : n * n ≤ 4096
-    cells-fit = mul-le-mul (h .small) (h .small)
+        (ap₂ (λ a b. (case 0 0 a b, filled a (pair-cost file scan) costs, filled a (mask-byte file scan) mask)) (matches .size) (matches .window-is))
 
     pub case-read : ReadAs n window lines costs mask (read file costs mask)
     case-read =
-        let fc : n * n ≤ length costs = omega (arith, cells-fit) in
-        let fm : n * n ≤ length mask = omega (arith, cells-fit) in
+        let fc : n * n ≤ length costs = omega (arith, cells-fit (h .small)) in
+        let fm : n * n ≤ length mask = omega (arith, cells-fit (h .small)) in
         subst (ReadAs n window lines costs mask) (sym answer-is) (record {
           case-is = refl;
           pair-is = λ i j hi hj. rw (
@@ -119,8 +117,8 @@ module _ {n window : ℕ} {lines : List Line} (h : WellFormed n window lines) wh
   pub case-hut : (i : ℕ) → (i < n → hut file i ≡ At (row-at lines i .hut)) × (n ≤ i → hut file i ≡ Absent)
   unfolding hut hut-in
   case-hut i = (
-    λ l. rw (well-formed-accepted h .verdict, tells .size, lt-ltb i n l, tells .hut i l),
-    λ l. rw (well-formed-accepted h .verdict, tells .size, le-ltb i n l),
+    λ l. rw (well-formed-accepted h .verdict, matches .size, lt-ltb i n l, matches .hut i l),
+    λ l. rw (well-formed-accepted h .verdict, matches .size, le-ltb i n l),
   )
 
 -- ---- any file
@@ -133,7 +131,7 @@ module _ (file : List ℕ) (bytes : AreBytes file) (costs : List ℤ) (mask : Li
   zero-accepted (D.accepted s) e z = accepted-exactly file bytes .0 (s, e)
 
   pub read-exactly : (read file costs mask .0 .number ≡ 0) ↔ IsCase file
-  unfolding read
+  unfolding read has-cells
   read-exactly = (
     λ z. zero-accepted (D.judged file) refl (rw (eq-eqb (length costs) 4096 lc, eq-eqb (length mask) 4096 lm) at z),
     λ c. ap (λ (l : List ℕ). read l costs mask .0 .number) (c .written)

@@ -1,4 +1,4 @@
--- What a scan of a file says beyond an earlier one, as lines; and what a full scan tells.
+-- What a scan of a file says beyond an earlier one, as lines; and what a full scan matches.
 use mathlib.Core.Path.{_≡_, refl, sym, ap, _∙_}
 use mathlib.Core.List.{List, [], _∷_, _++_, map, append-nil, append-assoc}
 use Prim.Native.Nat.{ℕ, zero, suc, _+_, _<_}
@@ -8,9 +8,8 @@ use lib.Seq.{getD-drop}
 use Rattle.storm_case.specs.Scan as D
 use Rattle.storm_case.specs.Case.{hut-of, row-area, row-clock, column-area, column-clock}
 use Rattle.storm_case.specs.Format.{Fragment, Event, Line, row, column, rows, columns, AllFit, WellFormed}
-use Rattle.storm_case.specs.Format.{no-row, no-column, row-at, column-at, Tells}
+use Rattle.storm_case.specs.Format.{no-row, no-column, row-at, column-at, Matches}
 use Rattle.storm_case.proofs.ScanLaws.{Filled}
-use Rattle.storm_case.proofs.OneRecord.{with-row, with-column}
 use Rattle.storm_case.proofs.FormatBytes.{u16-drop, u32-drop, row-in, column-in}
 
 -- ---- lists
@@ -48,7 +47,7 @@ module _ (file : List ℕ) (s : D.Scan) where
 
   module _ {t : D.Scan} {lines : List Line} where
     pub row-further : {f : Fragment} → row-from file (s .at) ≡ f
-        → Further file (with-row s) t lines → Further file s t (row f ∷ lines)
+        → Further file (D.with-row s) t lines → Further file s t (row f ∷ lines)
     unfolding rows columns
     row-further e h = record {
       same-n = h .same-n;
@@ -58,7 +57,7 @@ module _ (file : List ℕ) (s : D.Scan) where
     }
 
     pub column-further : {e : Event} → column-from file (s .at) ≡ e
-        → Further file (with-column s) t lines → Further file s t (column e ∷ lines)
+        → Further file (D.with-column s) t lines → Further file s t (column e ∷ lines)
     unfolding rows columns
     column-further e h = record {
       same-n = h .same-n;
@@ -67,7 +66,7 @@ module _ (file : List ℕ) (s : D.Scan) where
       more-columns = h .more-columns ∙ rw (map-snoc (column-from file) (s .events) (s .at), e, append-assoc);
     }
 
--- a full scan of a file tells what its lines say
+-- a full scan of a file matches what its lines say
 module _ (file : List ℕ) {at n window : ℕ} {t : D.Scan} {lines : List Line} (h : Further file (D.scan-with at n window [] []) t lines)
     (full : Filled t) where
   row-is : (i : ℕ) → i < n → row-from file (getD (t .fragments) i 0) ≡ row-at lines i
@@ -80,9 +79,9 @@ module _ (file : List ℕ) {at n window : ℕ} {t : D.Scan} {lines : List Line} 
       let in-range : j < length (t .events) = omega (arith, full .columns, h .same-n) in
       sym (map-at (column-from file) (t .events) j 0 no-column in-range) ∙ ap (λ (es : List Event). getD es j no-column) (h .more-columns)
 
-  pub further-tells : Tells file t n window lines
+  pub further-matches : Matches file t n window lines
   unfolding hut-of row-area row-clock column-area column-clock
-  further-tells = record {
+  further-matches = record {
     size = h .same-n;
     window-is = h .same-window;
     hut = λ i l. u16-drop file (getD (t .fragments) i 0) 1 ∙ ap (λ f. f .hut) (row-is i l);

@@ -7,18 +7,18 @@ use Prim.Native.Nat.{ℕ, zero, suc, _+_, _-_, _≤_, _<_}
 use native.Mathlib.Omega.{arith}
 use lib.ListN.{length, getD, drop, length-drop, length-append}
 use lib.Seq.{drop-drop}
-use Rattle.storm_case.specs.Records.{known, body-length, u16-at, u32-at}
+use Rattle.records.specs.Records.{known, body-length}
+use Rattle.storm_case.specs.Numbers.{u16-at, u32-at}
 use Rattle.storm_case.specs.Scan as D
 use Rattle.storm_case.specs.Format.{Line, row, column, rows, columns, little-endian, line-bytes, lines-bytes, AllFit}
-use Rattle.storm_case.proofs.RecordLaws.{whole}
-use Rattle.storm_case.proofs.ScanLaws.{size-good, fragment-good, event-good, end-good, stays-accepted}
-use Rattle.storm_case.proofs.ScanLaws.{record-size, record-fragment, record-event, record-end}
-use Rattle.storm_case.proofs.OneRecord.{with-row, with-column}
+use Rattle.records.proofs.RecordLaws.{whole}
+use Rattle.storm_case.proofs.ScanLaws.{size-good, line-good, end-good, stays-accepted}
+use Rattle.storm_case.proofs.ScanLaws.{record-whole, kind-size, kind-fragment, kind-event, kind-end}
 use Rattle.storm_case.proofs.FormatBytes.{row-in, column-in, row-back, six-back}
 use Rattle.storm_case.proofs.FormatScan.{first-kind, Further, no-further, row-further, column-further}
 
 -- the records of some lines, and their verdict
-pub record Taken (file : List ℕ) (k : ℕ) (s : D.Scan) (lines : List Line) : Type 0 where
+pub record LinesTaken (file : List ℕ) (k : ℕ) (s : D.Scan) (lines : List Line) : Type 0 where
   pub scan : D.Scan
   pub verdict : D.judge-from file k (D.more s) ≡ D.accepted scan
   pub further : Further file s scan lines
@@ -32,28 +32,28 @@ module _ (file : List ℕ) (s : D.Scan) {bytes : List ℕ} (w : drop (s .at) fil
   left = sym (length-drop (s .at) file) ∙ ap length w
 
   pub size-taken : s .n ≡ 0 → D.bad-size file s ≡ false → getD bytes 0 0 ≡ 1 → 7 ≤ length bytes
-      → D.judge-record file s ≡ D.more (D.scan-with (s .at + 7) (u16-at file (s .at + 1)) (u32-at file (s .at + 3)) [] [])
+      → D.judge-record file s ≡ D.more (D.with-size s (u16-at file (s .at + 1)) (u32-at file (s .at + 3)))
   unfolding known body-length
   size-taken none good e long =
       let kind = kind-is ∙ e in
       let here = whole file (s .at) (omega (arith, left)) (rw kind) {m = 6} (rw kind) (omega (arith, left)) in
-      sym (size-good file s none good ∙ record-size file s here refl kind)
+      sym (size-good file s none good ∙ kind-size file s kind ∙ record-whole file s here refl)
 
   row-taken : s .n ≢ 0 → length (s .fragments) ≢ s .n → getD bytes 0 0 ≡ 2 → 9 ≤ length bytes
-      → D.judge-record file s ≡ D.more (with-row s)
+      → D.judge-record file s ≡ D.more (D.with-row s)
   unfolding known body-length
   row-taken some fewer e long =
       let kind = kind-is ∙ e in
       let here = whole file (s .at) (omega (arith, left)) (rw kind) {m = 8} (rw kind) (omega (arith, left)) in
-      sym (fragment-good file s some fewer ∙ record-fragment file s here refl kind)
+      sym (line-good s _ _ some fewer ∙ kind-fragment file s kind ∙ record-whole file s here refl)
 
   column-taken : s .n ≢ 0 → length (s .events) ≢ s .n → getD bytes 0 0 ≡ 3 → 7 ≤ length bytes
-      → D.judge-record file s ≡ D.more (with-column s)
+      → D.judge-record file s ≡ D.more (D.with-column s)
   unfolding known body-length
   column-taken some fewer e long =
       let kind = kind-is ∙ e in
       let here = whole file (s .at) (omega (arith, left)) (rw kind) {m = 6} (rw kind) (omega (arith, left)) in
-      sym (event-good file s some fewer ∙ record-event file s here refl kind)
+      sym (line-good s _ _ some fewer ∙ kind-event file s kind ∙ record-whole file s here refl)
 
   end-taken : s .n ≢ 0 → length (s .fragments) ≡ s .n → length (s .events) ≡ s .n → getD bytes 0 0 ≡ 4 → length bytes ≡ 1
       → D.judge-record file s ≡ D.accepted s
@@ -62,17 +62,17 @@ module _ (file : List ℕ) (s : D.Scan) {bytes : List ℕ} (w : drop (s .at) fil
       let kind = kind-is ∙ e in
       let here = whole file (s .at) (omega (arith, left)) (rw kind) {m = 0} (rw kind) (omega arith) in
       sym (end-good file s some r c (omega (arith, left))
-      ∙ record-end file s here refl (omega (arith, kind)) (omega (arith, kind)) (omega (arith, kind)))
+      ∙ kind-end file s (omega (arith, kind)) (omega (arith, kind)) (omega (arith, kind)) ∙ record-whole file s here refl)
 
 -- what is left of n
-pub record Due (s : D.Scan) (lines : List Line) : Type 0 where
+pub record LinesDue (s : D.Scan) (lines : List Line) : Type 0 where
   pub some : s .n ≢ 0
   pub rows-due : length (s .fragments) + length (rows lines) ≡ s .n
   pub columns-due : length (s .events) + length (columns lines) ≡ s .n
 
 -- one record for each line, and one for the end
 pub lines-taken : (file : List ℕ) (lines : List Line) (k : ℕ) (s : D.Scan) → drop (s .at) file ≡ lines-bytes lines
-    → Due s lines → AllFit lines → length lines < k → Taken file k s lines
+    → LinesDue s lines → AllFit lines → length lines < k → LinesTaken file k s lines
 unfolding D.judge-from lines-bytes rows columns line-bytes little-endian
 lines-taken file [] zero s w d fit room = absurd (omega arith)
 lines-taken file [] (suc k) s w d fit room =
@@ -80,12 +80,12 @@ lines-taken file [] (suc k) s w d fit room =
     record { scan = s; verdict = ap (D.judge-from file k) end ∙ stays-accepted file k s; further = no-further file s }
 lines-taken file (row f ∷ lines) zero s w d fit room = absurd (omega arith)
 lines-taken file (row f ∷ lines) (suc k) s w d fit room =
-    let due : Due (with-row s) lines = record {
+    let due : LinesDue (D.with-row s) lines = record {
       some = d .some;
       rows-due = omega (arith, d .rows-due, length-append (s .fragments) (s .at ∷ []));
       columns-due = d .columns-due;
     } in
-    let t = lines-taken file lines k (with-row s) (sym (drop-drop 9 (s .at) file) ∙ ap (drop 9) w) due (fit .1) (omega arith) in
+    let t = lines-taken file lines k (D.with-row s) (sym (drop-drop 9 (s .at) file) ∙ ap (drop 9) w) due (fit .1) (omega arith) in
     record {
       scan = t .scan;
       verdict = ap (D.judge-from file k) (row-taken file s w (d .some) (omega (arith, d .rows-due)) refl (omega arith)) ∙ t .verdict;
@@ -93,12 +93,12 @@ lines-taken file (row f ∷ lines) (suc k) s w d fit room =
     }
 lines-taken file (column e ∷ lines) zero s w d fit room = absurd (omega arith)
 lines-taken file (column e ∷ lines) (suc k) s w d fit room =
-    let due : Due (with-column s) lines = record {
+    let due : LinesDue (D.with-column s) lines = record {
       some = d .some;
       rows-due = d .rows-due;
       columns-due = omega (arith, d .columns-due, length-append (s .events) (s .at ∷ []));
     } in
-    let t = lines-taken file lines k (with-column s) (sym (drop-drop 7 (s .at) file) ∙ ap (drop 7) w) due (fit .1) (omega arith) in
+    let t = lines-taken file lines k (D.with-column s) (sym (drop-drop 7 (s .at) file) ∙ ap (drop 7) w) due (fit .1) (omega arith) in
     let same = ap column-in w ∙ six-back 3 (e .area) (e .clock) (lines-bytes lines) (fit .0 .area) (fit .0 .clock) in
     record {
       scan = t .scan;

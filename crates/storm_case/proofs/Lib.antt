@@ -1,7 +1,6 @@
-pub mod RecordLaws
 pub mod OneRecord
 pub mod ScanLaws
-pub mod SaysLaws
+pub mod ViewLaws
 pub mod CellLaws
 pub mod Fronts
 pub mod CaseLaws

@@ -3,9 +3,10 @@ use mathlib.Core.Path.{_≡_, refl}
 use mathlib.Core.List.{List, [], _∷_, _++_}
 use Prim.Native.Nat.{ℕ, zero, suc}
 use lib.ListN.{length, take, replicate}
-use Rattle.storm_case.specs.Records.{known, body-length, found, u16-at, u32-at}
+use Rattle.records.specs.Records.{known, body-length, found}
+use Rattle.storm_case.specs.Numbers.{u16-at, u32-at}
 use Rattle.storm_case.specs.Scan.{Judged, more, refused, accepted}
-use Rattle.storm_case.specs.Scan.{bad-size, size, fragment, event, end, record-of, judge-record, judge-from, judged}
+use Rattle.storm_case.specs.Scan.{bad-size, size, line, end, by-kind, record-of, judge-record, judge-from, judged}
 
 -- a record so many times, then the rest
 abbrev times : ℕ → List ℕ → List ℕ → List ℕ
@@ -22,10 +23,10 @@ number-of (refused k place) = k
 number-of (accepted s) = 0
 
 pub longest-accepted : (number-of (judged (longest (4 ∷ []))) ≡ 0) × (length (longest (4 ∷ [])) ≡ 1032)
-unfolding judged judge-from judge-record record-of size fragment event end bad-size found known body-length u16-at u32-at
+unfolding judged judge-from judge-record record-of by-kind size line end bad-size found known body-length u16-at u32-at
 longest-accepted = (refl, refl)
 
 -- a fragment too many, and the same without its last byte
 pub fewest : (judged (longest (2 ∷ replicate 8 0)) ≡ refused 24 1031) × (judged (take 1039 (longest (2 ∷ replicate 8 0))) ≡ refused 21 1031)
-unfolding judged judge-from judge-record record-of size fragment event end bad-size found known body-length u16-at u32-at
+unfolding judged judge-from judge-record record-of by-kind size line end bad-size found known body-length u16-at u32-at
 fewest = (refl, refl)

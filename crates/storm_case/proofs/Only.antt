@@ -1,23 +1,15 @@
--- Theorem: two answers that meet the promise are equal, of the finder, of the body, of the reader with all that it is lent, and of the hut.
+-- Theorem: two answers that meet the promise are equal, of the reader with all that it is lent, and of the hut.
 use mathlib.Core.Path.{_≡_, sym, _∙_}
 use mathlib.Core.List.{List}
 use Prim.Native.Nat.{ℕ}
 use lib.IntN.{ℤ}
 use Rattle.storm_case.specs.declared.Case.{Case}
-use Rattle.storm_case.specs.declared.Found.{Found}
 use Rattle.storm_case.specs.declared.Hut.{Hut}
-use Rattle.storm_case.specs.Records.{found, body}
 use Rattle.storm_case.specs.Case.{read, hut}
 
 -- each promise is an equation, so one law serves all
 only : {A : Type 0} {r s : A} (said : A) → r ≡ said → s ≡ said → r ≡ s
 only said e f = e ∙ sym f
-
-pub only-found : (file : List ℕ) (at : ℕ) {r s : Found} → r ≡ found file at → s ≡ found file at → r ≡ s
-only-found file at = only (found file at)
-
-pub only-body : (file : List ℕ) (at : ℕ) {r s : List ℕ} → r ≡ body file at → s ≡ body file at → r ≡ s
-only-body file at = only (body file at)
 
 -- the answer, and every cost and mask byte that was lent
 pub only-read : (file : List ℕ) (costs : List ℤ) (mask : List ℕ) {r r′ : Case} {c c′ : List ℤ} {m m′ : List ℕ}

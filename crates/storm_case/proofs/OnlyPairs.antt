@@ -11,7 +11,7 @@ use Rattle.steps.specs.Lent.{Task, Buffers, buffers}
 use Rattle.steps.specs.Promise.{Promise}
 use Rattle.storm_case.specs.declared.pair.Pairs.{Pairs}
 use Rattle.storm_case.specs.Scan as D
-use Rattle.storm_case.specs.Pair.{Room, room, enough-room, front, behind, paired, Solved, PairPromise}
+use Rattle.storm_case.specs.Pair.{Loan, loan, enough-room, front, behind, paired, Solved, PairPromise}
 use Rattle.storm_case.proofs.ScanLaws.{never-more}
 use Rattle.storm_case.proofs.Decides.{cut-nothing, first-bytes}
 
@@ -41,14 +41,14 @@ same-buffers n b c f h =
 
 -- ---- the theorems
 
-module _ (only-answer : OnlyAnswer) (file : List ℕ) (before : Room) {p p′ : Pairs} {after after′ : Room} where
+module _ (only-answer : OnlyAnswer) (file : List ℕ) (before : Loan) {p p′ : Pairs} {after after′ : Loan} where
   only-solved : (s : D.Scan) → Solved file s before p after → Solved file s before p′ after′ → (p ≡ p′) × (after ≡ after′)
   only-solved s x y =
       let same = only-answer _ _ _ _ _ _ (x .solved .solver) (y .solved .solver) in
       let rest = same-buffers (s .n) (after .rest) (after′ .rest) (same .1) (x .solved .kept ∙ sym (y .solved .kept)) in (
         x .solved .given ∙ ap (paired (s .n) (s .window)) (same .0) ∙ sym (y .solved .given),
-        ap (λ l. room l (after .mask) (after .rest)) (x .costs ∙ sym (y .costs)) ∙ ap (λ l. room (after′ .costs) l (after .rest)) (x .mask ∙ sym (y .mask))
-            ∙ ap (room (after′ .costs) (after′ .mask)) rest,
+        ap (λ l. loan l (after .mask) (after .rest)) (x .costs ∙ sym (y .costs)) ∙ ap (λ l. loan (after′ .costs) l (after .rest)) (x .mask ∙ sym (y .mask))
+            ∙ ap (loan (after′ .costs) (after′ .mask)) rest,
       )
 
   pub only-pairs : PairPromise file before p after → PairPromise file before p′ after′ → (p ≡ p′) × (after ≡ after′)
@@ -63,7 +63,7 @@ module _ (only-answer : OnlyAnswer) (file : List ℕ) (before : Room) {p p′ : 
       read e (D.accepted s) j = only-solved s (x .solved e s j) (y .solved e s j)
 
 -- what the program reads of its input is enough
-pub first-pairs : (file : List ℕ) {before : Room} {p : Pairs} {after : Room} → PairPromise (take 4096 file) before p after → PairPromise file before p after
+pub first-pairs : (file : List ℕ) {before : Loan} {p : Pairs} {after : Loan} → PairPromise (take 4096 file) before p after → PairPromise file before p after
 first-pairs file {before} {p} {after} x = record {
   crowded = x .crowded;
   unread = λ e number place j. x .unread e number place (first-bytes file ∙ j);

@@ -2,15 +2,15 @@
 use mathlib.Core.Path.{_≡_, refl, sym, ap, subst, _∙_}
 use mathlib.Core.Logic.{_≢_}
 use mathlib.Core.Bool.{true, false}
-use mathlib.Core.List.{List, [], _∷_, _++_}
+use mathlib.Core.List.{List, []}
 use Prim.Native.Nat.{ℕ, zero, suc, _+_, _≤_, _<_}
 use native.Mathlib.Omega.{arith}
-use lib.Dec.{T, eqb, ltb}
 use lib.ListN.{length, getD}
 use borrow.Author.Tests.{le-ltb, lt-ltb, eq-eqb, ne-eqb}
-use Rattle.storm_case.specs.declared.Found.{Found}
-use Rattle.storm_case.specs.declared.Found.the-variants.{Body, Cut, Unknown}
-use Rattle.storm_case.specs.Records.{found, u16-at, u32-at}
+use Rattle.records.specs.declared.Found.{Found}
+use Rattle.records.specs.declared.Found.the-variants.{Body, Cut, Unknown}
+use Rattle.records.specs.Records.{found}
+use Rattle.storm_case.specs.Numbers.{u16-at, u32-at}
 use Rattle.storm_case.specs.Scan as D
 use Rattle.storm_case.proofs.OneRecord.{Does, refuses, sizes, adds-row, adds-column, ends as ends-file, record-does}
 
@@ -50,41 +50,15 @@ module _ (file : List ℕ) (s : D.Scan) where
   unfolding D.size
   size-bad z b = rw (eq-eqb (s .n) 0 z, b)
 
-  pub size-good : s .n ≡ 0 → D.bad-size file s ≡ false → D.more (D.scan-with (s .at + 7) (u16-at file (s .at + 1)) (u32-at file (s .at + 3)) [] []) ≡ D.size file s
+  pub size-good : s .n ≡ 0 → D.bad-size file s ≡ false → D.more (D.with-size s (u16-at file (s .at + 1)) (u32-at file (s .at + 3))) ≡ D.size file s
   unfolding D.size
   size-good z b = rw (eq-eqb (s .n) 0 z, b)
-
-  pub fragment-early : s .n ≡ 0 → D.refused 23 (s .at) ≡ D.fragment file s
-  unfolding D.fragment
-  fragment-early z = rw (eq-eqb (s .n) 0 z)
-
-  pub event-early : s .n ≡ 0 → D.refused 23 (s .at) ≡ D.event file s
-  unfolding D.event
-  event-early z = rw (eq-eqb (s .n) 0 z)
 
   pub end-early : s .n ≡ 0 → D.refused 23 (s .at) ≡ D.end file s
   unfolding D.end
   end-early z = rw (eq-eqb (s .n) 0 z)
 
   module _ (some : s .n ≢ 0) where
-    pub fragment-many : length (s .fragments) ≡ s .n → D.refused 24 (s .at) ≡ D.fragment file s
-    unfolding D.fragment
-    fragment-many h = rw (ne-eqb (s .n) 0 some, eq-eqb (length (s .fragments)) (s .n) h)
-
-    pub fragment-good : length (s .fragments) ≢ s .n
-        → D.more (D.scan-with (s .at + 9) (s .n) (s .window) (s .fragments ++ (s .at ∷ [])) (s .events)) ≡ D.fragment file s
-    unfolding D.fragment
-    fragment-good h = rw (ne-eqb (s .n) 0 some, ne-eqb (length (s .fragments)) (s .n) h)
-
-    pub event-many : length (s .events) ≡ s .n → D.refused 24 (s .at) ≡ D.event file s
-    unfolding D.event
-    event-many h = rw (ne-eqb (s .n) 0 some, eq-eqb (length (s .events)) (s .n) h)
-
-    pub event-good : length (s .events) ≢ s .n
-        → D.more (D.scan-with (s .at + 7) (s .n) (s .window) (s .fragments) (s .events ++ (s .at ∷ []))) ≡ D.event file s
-    unfolding D.event
-    event-good h = rw (ne-eqb (s .n) 0 some, ne-eqb (length (s .events)) (s .n) h)
-
     pub end-few-rows : length (s .fragments) ≢ s .n → D.refused 24 (s .at) ≡ D.end file s
     unfolding D.end
     end-few-rows h = rw (ne-eqb (s .n) 0 some, ne-eqb (length (s .fragments)) (s .n) h)
@@ -123,26 +97,41 @@ module _ (file : List ℕ) (s : D.Scan) where
     unfolding D.judge-record D.record-of
     record-unknown p = ap (D.record-of file s) (sym p ∙ e)
 
-    module _ {k : ℕ} (p : f ≡ Body k) where
-      by-kind : D.record-of file s (Body k) ≡ D.judge-record file s
-      unfolding D.judge-record
-      by-kind = ap (D.record-of file s) (sym p ∙ e)
+    pub record-whole : {k : ℕ} → f ≡ Body k → D.by-kind file s ≡ D.judge-record file s
+    unfolding D.judge-record D.record-of
+    record-whole p = ap (D.record-of file s) (sym p ∙ e)
 
-      pub record-size : getD file (s .at) 0 ≡ 1 → D.size file s ≡ D.judge-record file s
-      unfolding D.record-of
-      record-size h = (rw h) ∙ by-kind
+  -- by its kind
+  pub kind-size : getD file (s .at) 0 ≡ 1 → D.size file s ≡ D.by-kind file s
+  unfolding D.by-kind
+  kind-size h = rw h
 
-      pub record-fragment : getD file (s .at) 0 ≡ 2 → D.fragment file s ≡ D.judge-record file s
-      unfolding D.record-of
-      record-fragment h = (rw h) ∙ by-kind
+  pub kind-fragment : getD file (s .at) 0 ≡ 2 → D.fragment s ≡ D.by-kind file s
+  unfolding D.by-kind
+  kind-fragment h = rw h
 
-      pub record-event : getD file (s .at) 0 ≡ 3 → D.event file s ≡ D.judge-record file s
-      unfolding D.record-of
-      record-event h = (rw h) ∙ by-kind
+  pub kind-event : getD file (s .at) 0 ≡ 3 → D.event s ≡ D.by-kind file s
+  unfolding D.by-kind
+  kind-event h = rw h
 
-      pub record-end : getD file (s .at) 0 ≢ 1 → getD file (s .at) 0 ≢ 2 → getD file (s .at) 0 ≢ 3 → D.end file s ≡ D.judge-record file s
-      unfolding D.record-of
-      record-end a b c = (rw (ne-eqb (getD file (s .at) 0) 1 a, ne-eqb (getD file (s .at) 0) 2 b, ne-eqb (getD file (s .at) 0) 3 c)) ∙ by-kind
+  pub kind-end : getD file (s .at) 0 ≢ 1 → getD file (s .at) 0 ≢ 2 → getD file (s .at) 0 ≢ 3 → D.end file s ≡ D.by-kind file s
+  unfolding D.by-kind
+  kind-end a b c = rw (ne-eqb (getD file (s .at) 0) 1 a, ne-eqb (getD file (s .at) 0) 2 b, ne-eqb (getD file (s .at) 0) 3 c)
+
+-- one line more
+module _ (s : D.Scan) (count : ℕ) (next : D.Scan) where
+  pub line-early : s .n ≡ 0 → D.refused 23 (s .at) ≡ D.line s count next
+  unfolding D.line
+  line-early z = rw (eq-eqb (s .n) 0 z)
+
+  module _ (some : s .n ≢ 0) where
+    pub line-many : count ≡ s .n → D.refused 24 (s .at) ≡ D.line s count next
+    unfolding D.line
+    line-many h = rw (ne-eqb (s .n) 0 some, eq-eqb count (s .n) h)
+
+    pub line-good : count ≢ s .n → D.more next ≡ D.line s count next
+    unfolding D.line
+    line-good h = rw (ne-eqb (s .n) 0 some, ne-eqb count (s .n) h)
 
 -- ---- what a record does
 
@@ -207,7 +196,7 @@ ends file (suc k) s h room = go (D.judge-record file s) (record-after file s h) 
 
 judged-ends : (file : List ℕ) → Ended (D.judged file)
 unfolding D.judged
-judged-ends file = ends file (length file + 1) (D.scan-with 0 0 0 [] []) (record { inside = omega arith; small = omega arith; low = omega arith }) (omega arith)
+judged-ends file = ends file (length file + 1) D.start (record { inside = omega arith; small = omega arith; low = omega arith }) (omega arith)
 
 module _ (file : List ℕ) {s : D.Scan} where
   pub never-more : D.judged file ≡ D.more s → ⊥

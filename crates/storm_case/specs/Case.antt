@@ -9,7 +9,7 @@ use Rattle.lines.specs.Square.{square}
 use Rattle.storm_case.specs.declared.Case.{Case}
 use Rattle.storm_case.specs.declared.Hut.{Hut}
 use Rattle.storm_case.specs.declared.Hut.the-variants.{At, Absent}
-use Rattle.storm_case.specs.Records.{u16-at, u32-at}
+use Rattle.storm_case.specs.Numbers.{u16-at, u32-at}
 use Rattle.storm_case.specs.Scan.{Scan, Judged, more, refused, accepted, judged}
 
 module _ (file : List ℕ) (s : Scan) where
@@ -58,10 +58,14 @@ case-of file costs mask (refused number place) = (case number place 0 0, costs, 
 -- a judged file is never here
 case-of file costs mask (more s) = (case 21 (s .at) 0 0, costs, mask)
 
--- the reader: any other room than 4,096 costs and 4,096 mask bytes is refused before the file is read
+-- exactly 4,096 costs and 4,096 mask bytes
+unfoldable pub has-cells : ℕ → ℕ → Bool
+has-cells costs mask = eqb costs 4096 && eqb mask 4096
+
+-- the reader: any other room is refused before the file is read
 unfoldable pub read : List ℕ → List ℤ → List ℕ → Case × List ℤ × List ℕ
 read file costs mask =
-    cond (eqb (length costs) 4096 && eqb (length mask) 4096) (case-of file costs mask (judged file)) (case 20 0 0 0, costs, mask)
+    cond (has-cells (length costs) (length mask)) (case-of file costs mask (judged file)) (case 20 0 0 0, costs, mask)
 
 -- row i's hut: absent where the row is not below n, or the file is refused
 unfoldable pub hut-in : List ℕ → ℕ → Judged → Hut

@@ -54,25 +54,22 @@ lines-bytes (line ∷ lines) = line-bytes line ++ lines-bytes lines
 unfoldable pub encode : ℕ → ℕ → List Line → List ℕ
 encode n window lines = 1 ∷ (little-endian 2 n ++ little-endian 4 window ++ lines-bytes lines)
 
-abbrev pub AreBytes : List ℕ → Type 0
-AreBytes file = (i : ℕ) → i < length file → getD file i 0 < 256
-
 -- ---- well-formed cases
 
 -- numbers that fit their bytes
-pub record RowFits (f : Fragment) : Type 0 where
+pub record FragmentFits (f : Fragment) : Type 0 where
   pub hut : f .hut < 65_536
   pub area : f .area < 65_536
   pub clock : f .clock < 4_294_967_296
 
-pub record ColumnFits (e : Event) : Type 0 where
+pub record EventFits (e : Event) : Type 0 where
   pub area : e .area < 65_536
   pub clock : e .clock < 4_294_967_296
 
 abbrev pub AllFit : List Line → Type 0
 AllFit [] = Unit {0}
-AllFit (row f ∷ lines) = RowFits f × AllFit lines
-AllFit (column e ∷ lines) = ColumnFits e × AllFit lines
+AllFit (row f ∷ lines) = FragmentFits f × AllFit lines
+AllFit (column e ∷ lines) = EventFits e × AllFit lines
 
 pub record WellFormed (n window : ℕ) (lines : List Line) : Type 0 where
   pub some : 1 ≤ n
@@ -106,7 +103,7 @@ abbrev pub column-at : List Line → ℕ → Event
 column-at lines j = getD (columns lines) j no-column
 
 -- the size and the window, and of each row and column what its record says
-pub record Tells (file : List ℕ) (s : Scan) (n window : ℕ) (lines : List Line) : Type 0 where
+pub record Matches (file : List ℕ) (s : Scan) (n window : ℕ) (lines : List Line) : Type 0 where
   pub size : s .n ≡ n
   pub window-is : s .window ≡ window
   pub hut : (i : ℕ) → i < n → hut-of file s i ≡ row-at lines i .hut
@@ -119,14 +116,14 @@ pub record Tells (file : List ℕ) (s : Scan) (n window : ℕ) (lines : List Lin
 pub record Accepts (n window : ℕ) (lines : List Line) : Type 0 where
   pub scan : Scan
   pub verdict : judged (encode n window lines) ≡ accepted scan
-  pub tells : Tells (encode n window lines) scan n window lines
+  pub matches : Matches (encode n window lines) scan n window lines
 
 -- an accepted file is a well-formed case
 pub record Reads (file : List ℕ) (s : Scan) : Type 0 where
   pub lines : List Line
   pub well-formed : WellFormed (s .n) (s .window) lines
   pub written : file ≡ encode (s .n) (s .window) lines
-  pub tells : Tells file s (s .n) (s .window) lines
+  pub matches : Matches file s (s .n) (s .window) lines
 
 -- ---- what the reader gives for a case
 

@@ -1,4 +1,4 @@
-pub mod Records
+pub mod Numbers
 pub mod Scan
 pub mod View
 pub mod Case

@@ -4,38 +4,38 @@ use mathlib.Core.Logic.{_⊎_}
 use mathlib.Core.Bool.{Bool, true, false, _&&_}
 use mathlib.Core.List.{List}
 use Prim.Native.Nat.{ℕ, _-_, _*_, _/_}
-use lib.Dec.{eqb}
 use lib.IntN.{ℤ, pos}
-use lib.ListN.{length, take, drop}
+use lib.ListN.{length, take, drop, replicate}
 use Rattle.lines.specs.Square.{square}
 use Rattle.lines.specs.Sets.{has}
 use Rattle.assignment.specs.Problem.{AllowedPairing, NoneBelow, Impossible, Block, total}
 use Rattle.steps.specs.declared.Answer.{Answer}
 use Rattle.steps.specs.Lent.{Buffers, task, buffers}
+use Rattle.steps.specs.Refusal.{room}
 use Rattle.steps.specs.Promise.{Promise}
 use Rattle.storm_case.specs.declared.pair.Pairs.{Pairs}
 use Rattle.storm_case.specs.Scan.{Scan, refused, accepted, judged}
-use Rattle.storm_case.specs.Case.{clock-error, may-pair, pair-cost, mask-byte, filled}
+use Rattle.storm_case.specs.Case.{clock-error, may-pair, pair-cost, mask-byte, filled, has-cells}
 
 -- ---- what is lent
 
-pub record Room : Type 0 where
+pub record Loan : Type 0 where
   pub costs : List ℤ
   pub mask : List ℕ
   pub rest : Buffers
 
-abbrev pub room : List ℤ → List ℕ → Buffers → Room
-room costs mask rest = record { costs = costs; mask = mask; rest = rest }
+abbrev pub loan : List ℤ → List ℕ → Buffers → Loan
+loan costs mask rest = record { costs = costs; mask = mask; rest = rest }
 
 -- exactly 4,096 places for each square and 64 for each line
-unfoldable pub fits : ℕ → ℕ → ℕ → ℕ → ℕ → ℕ → ℕ → Bool
-fits costs mask working marks columns row-prices column-prices =
-    eqb costs 4096 && eqb mask 4096 && eqb working 4096 && eqb marks 4096
-    && eqb columns 64 && eqb row-prices 64 && eqb column-prices 64
+abbrev pub enough-room : Loan → Bool
+enough-room l = has-cells (length (l .costs)) (length (l .mask)) && room 4096 64 (l .rest)
 
-abbrev pub enough-room : Room → Bool
-enough-room r =
-    fits (length (r .costs)) (length (r .mask)) (length (r .rest .working)) (length (r .rest .marks)) (length (r .rest .columns)) (length (r .rest .row-prices)) (length (r .rest .column-prices))
+-- all 0, as a program has them on its stack
+abbrev pub fresh : Loan
+fresh =
+    loan (replicate 4096 (pos 0)) (replicate 4096 0)
+    (buffers (replicate 4096 (pos 0)) (replicate 4096 0) (replicate 64 0) (replicate 64 (pos 0)) (replicate 64 (pos 0)))
 
 -- the part of the buffers that n rows take, and what lies behind it
 unfoldable pub front : ℕ → Buffers → Buffers
@@ -82,14 +82,14 @@ module _ (file : List ℕ) (s : Scan) where
     pub impossible : p .number ≡ 6 → Impossible (s .n) (s .n) (may-pair file s)
 
   -- an accepted file: its cells are written, and solved
-  pub record Solved (before : Room) (p : Pairs) (after : Room) : Type 0 where
+  pub record Solved (before : Loan) (p : Pairs) (after : Loan) : Type 0 where
     pub costs : after .costs ≡ filled (s .n) (pair-cost file s) (before .costs)
     pub mask : after .mask ≡ filled (s .n) (mask-byte file s) (before .mask)
     pub solved : SolvedBy (s .n) (square (pair-cost file s) (s .n)) (square (mask-byte file s) (s .n)) (s .window) (before .rest) p (after .rest)
     pub about : AboutFile p (front (s .n) (after .rest) .columns)
 
 -- of every file, whatever is lent
-pub record PairPromise (file : List ℕ) (before : Room) (p : Pairs) (after : Room) : Type 0 where
+pub record PairPromise (file : List ℕ) (before : Loan) (p : Pairs) (after : Loan) : Type 0 where
   pub crowded : enough-room before ≡ false → (p ≡ unpaired 20 0) × (after ≡ before)
   pub unread : enough-room before ≡ true → (number place : ℕ) → judged file ≡ refused number place → (p ≡ unpaired number place) × (after ≡ before)
   pub solved : enough-room before ≡ true → (s : Scan) → judged file ≡ accepted s → Solved file s before p after

@@ -3,11 +3,10 @@ ghost use mathlib.Core.Path.{_≡_};
 ghost use mathlib.Core.Bool.{true, cond, not, _&&_};
 ghost use Prim.Native.Nat.{_+_, _-_, _*_, _≤_, _<_};
 ghost use lib.Dec.{eqb, ltb};
-ghost use lib.ListN.{length};
 ghost use lib.IntN.{pos};
 ghost use Rattle.lines.specs.Square.{square, each-row};
 ghost use Rattle.storm_case.specs.Case.{pair-cost, mask-byte};
-ghost use Rattle.storm_case.specs.View.{view-scan, Ready};
+ghost use Rattle.storm_case.specs.View.{view-scan, Fillable};
 use crate::numbers;
 use crate::scan::Scan;
 
@@ -55,8 +54,7 @@ fn fill_row(
     costs: &mut [i32],
     mask: &mut [u8],
 )
-    requires { ⌜ Ready (now file) scan (now fragments) (now events) × (scan .fragments ≡ scan .n) × (scan .events ≡ scan .n) × (row < scan .n)
-        × (length (now costs) ≡ scan .n * scan .n) × (length (now mask) ≡ scan .n * scan .n) ⌝ }
+    requires { ⌜ Fillable (now file) scan (now fragments) (now events) (now costs) (now mask) × (row < scan .n) ⌝ }
     ensures { λ _. ⌜ (now (costs .exit) ≡ each-row (scan .n) row (λ j w. pair-cost (now (file .entry)) (view-scan scan (now (fragments .entry)) (now (events .entry))) row j) (now (costs .entry)))
         × (now (mask .exit) ≡ each-row (scan .n) row (λ j w. mask-byte (now (file .entry)) (view-scan scan (now (fragments .entry)) (now (events .entry))) row j) (now (mask .entry))) ⌝ }
 {
@@ -89,8 +87,7 @@ pub(crate) fn fill(
     costs: &mut [i32],
     mask: &mut [u8],
 )
-    requires { ⌜ Ready (now file) scan (now fragments) (now events) × (scan .fragments ≡ scan .n) × (scan .events ≡ scan .n)
-        × (length (now costs) ≡ scan .n * scan .n) × (length (now mask) ≡ scan .n * scan .n) ⌝ }
+    requires { ⌜ Fillable (now file) scan (now fragments) (now events) (now costs) (now mask) ⌝ }
     ensures { λ _. ⌜ (now (costs .exit) ≡ square (pair-cost (now (file .entry)) (view-scan scan (now (fragments .entry)) (now (events .entry)))) (scan .n))
         × (now (mask .exit) ≡ square (mask-byte (now (file .entry)) (view-scan scan (now (fragments .entry)) (now (events .entry)))) (scan .n)) ⌝ }
 {

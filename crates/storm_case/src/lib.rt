@@ -1,22 +1,19 @@
-// The case reader: records of a case file, its judgement, the costs and mask that it says, the hut of a row, and its fragments paired with its events.
+// The case reader: the judgement of a case file, the costs and mask that it says, the hut of a row, and its fragments paired with its events.
 ghost use mathlib.Core.Path.{_≡_};
-ghost use Rattle.storm_case.specs.Records.{body-length as Records·body-length, found, body as Records·body};
-ghost use Rattle.storm_case.specs.Case.{case, read, hut as Case·hut};
+ghost use Rattle.storm_case.specs.Case.{case, has-cells, read, hut as Case·hut};
 
 mod cells;
+mod judgement;
 mod numbers;
 mod pair;
+mod record;
 mod scan;
 
 pub use pair::Pairs;
 pub use pair::pair_case;
-
-// What stands at an offset of a file.
-pub enum Found {
-    Body(usize),
-    Cut,
-    Unknown,
-}
+pub use records::Found;
+pub use records::body;
+pub use records::find;
 
 // What a file says: 0 or the number of a refusal with its place, the size and the window.
 #[repr(C)]
@@ -33,52 +30,6 @@ pub enum Hut {
     Absent,
 }
 
-fn body_length(kind: u8) -> usize
-    ensures { λ r. ⌜ r ≡ Records·body-length kind ⌝ }
-{
-    match kind {
-        1 => 6,
-        2 => 8,
-        3 => 6,
-        _ => 0,
-    }
-}
-
-pub fn find(file: &[u8], at: usize) -> Found
-    ensures { λ r. ⌜ r ≡ found (now (file .entry)) at ⌝ }
-{
-    if file.len() <= at {
-        return Found::Cut;
-    }
-    let kind = file[at];
-    if kind == 0 {
-        return Found::Unknown;
-    }
-    if 4 < kind {
-        return Found::Unknown;
-    }
-    let length = body_length(kind);
-    if file.len() - (at + 1) < length {
-        return Found::Cut;
-    }
-    Found::Body(length)
-}
-
-// The body of the record at an offset, as that part of the file; an empty part where there is none.
-pub fn body(file: &[u8], at: usize) -> &[u8]
-    ensures { λ r. ⌜ now r ≡ Records·body (now (file .entry)) at ⌝ }
-{
-    match find(file, at) {
-        Found::Body(length) => {
-            let start = at + 1;
-            let end = start + length;
-            &file[start..end]
-        }
-        Found::Cut => &file[..0],
-        Found::Unknown => &file[..0],
-    }
-}
-
 fn refused(number: u32, place: usize) -> Case
     ensures { λ r. ⌜ r ≡ case number place 0 0 ⌝ }
 {
@@ -90,19 +41,26 @@ fn refused(number: u32, place: usize) -> Case
     }
 }
 
+// Exactly 4,096 costs and 4,096 mask bytes?
+fn has_cells(costs: usize, mask: usize) -> bool
+    ensures { λ r. ⌜ r ≡ has-cells costs mask ⌝ }
+{
+    if costs != 4096 {
+        return false;
+    }
+    mask == 4096
+}
+
 // Reads a file into room for 4,096 costs and 4,096 mask bytes.
 pub fn read_case(file: &[u8], costs: &mut [i32], mask: &mut [u8]) -> Case
     ensures { λ r. ⌜ (r, now (costs .exit), now (mask .exit)) ≡ read (now (file .entry)) (now (costs .entry)) (now (mask .entry)) ⌝ }
 {
-    if costs.len() != 4096 {
-        return refused(20, 0);
-    }
-    if mask.len() != 4096 {
+    if !has_cells(costs.len(), mask.len()) {
         return refused(20, 0);
     }
     let mut fragments = [0usize; 64];
     let mut events = [0usize; 64];
-    let scan = scan::judge_file(file, &mut fragments, &mut events);
+    let scan = judgement::judge_file(file, &mut fragments, &mut events);
     let n = scan.n;
     let window = scan.window;
     let judged = scan.judged;
@@ -135,7 +93,7 @@ pub fn hut_of(file: &[u8], row: usize) -> Hut
 {
     let mut fragments = [0usize; 64];
     let mut events = [0usize; 64];
-    let scan = scan::judge_file(file, &mut fragments, &mut events);
+    let scan = judgement::judge_file(file, &mut fragments, &mut events);
     let n = scan.n;
     let judged = scan.judged;
     match judged {

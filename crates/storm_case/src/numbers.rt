@@ -2,7 +2,7 @@
 ghost use mathlib.Core.Path.{_≡_};
 ghost use Prim.Native.Nat.{_+_, _<_};
 ghost use lib.ListN.{length};
-ghost use Rattle.storm_case.specs.Records.{u16-at, u32-at};
+ghost use Rattle.storm_case.specs.Numbers.{u16-at, u32-at};
 
 pub(crate) fn u16_at(file: &[u8], place: usize) -> u16
     requires { ⌜ place + 1 < length (now file) ⌝ }

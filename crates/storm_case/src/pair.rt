@@ -1,10 +1,12 @@
 // A case read and solved: which fragment goes with which event. Of the solver only its promise is known here.
 ghost use mathlib.Core.Path.{_≡_};
-ghost use mathlib.Core.Bool.{true};
+ghost use mathlib.Core.Bool.{true, _&&_};
 ghost use Prim.Native.Nat.{_*_, _≤_};
 ghost use lib.ListN.{take};
 ghost use Rattle.steps.specs.Lent.{buffers};
-ghost use Rattle.storm_case.specs.Pair.{room, fits, enough-room, unpaired as Pair·unpaired, paired as Pair·paired, enough as Pair·enough, SolvedBy, PairPromise};
+ghost use Rattle.steps.specs.Refusal.{has-room};
+ghost use Rattle.storm_case.specs.Case.{has-cells};
+ghost use Rattle.storm_case.specs.Pair.{loan, enough-room, unpaired as Pair·unpaired, paired as Pair·paired, enough as Pair·enough, SolvedBy, PairPromise};
 use steps::Answer;
 
 // 0 paired, 6 no pairing, or the number of a refusal with its place; the size and the window; the summed clock difference at 0; the block at 6.
@@ -68,27 +70,12 @@ fn has_room(
     row_prices: usize,
     column_prices: usize,
 ) -> bool
-    ensures { λ r. ⌜ r ≡ fits costs mask working marks columns «row_prices» «column_prices» ⌝ }
+    ensures { λ r. ⌜ r ≡ (has-cells costs mask && has-room 4096 64 working marks columns «row_prices» «column_prices») ⌝ }
 {
-    if costs != 4096 {
+    if !crate::has_cells(costs, mask) {
         return false;
     }
-    if mask != 4096 {
-        return false;
-    }
-    if working != 4096 {
-        return false;
-    }
-    if marks != 4096 {
-        return false;
-    }
-    if columns != 64 {
-        return false;
-    }
-    if row_prices != 64 {
-        return false;
-    }
-    column_prices == 64
+    rules::has_room(4096, 64, working, marks, columns, row_prices, column_prices)
 }
 
 // Solves the first n * n cells, on the front of the buffers.
@@ -103,7 +90,7 @@ fn solve_cells(
     row_prices: &mut [i64],
     column_prices: &mut [i64],
 ) -> Pairs
-    requires { ⌜ (n ≤ 64) × (enough-room (room (now costs) (now mask)
+    requires { ⌜ (n ≤ 64) × (enough-room (loan (now costs) (now mask)
         (buffers (now working) (now marks) (now columns) (now «row_prices») (now «column_prices»))) ≡ true) ⌝ }
     ensures { λ r. ⌜ SolvedBy n (take (n * n) (now (costs .entry))) (take (n * n) (now (mask .entry))) window
         (buffers (now (working .entry)) (now (marks .entry)) (now (columns .entry)) (now («row_prices» .entry)) (now («column_prices» .entry))) r
@@ -136,9 +123,9 @@ pub fn pair_case(
     row_prices: &mut [i64],
     column_prices: &mut [i64],
 ) -> Pairs
-    ensures { λ r. ⌜ PairPromise (now (file .entry)) (room (now (costs .entry)) (now (mask .entry))
+    ensures { λ r. ⌜ PairPromise (now (file .entry)) (loan (now (costs .entry)) (now (mask .entry))
         (buffers (now (working .entry)) (now (marks .entry)) (now (columns .entry)) (now («row_prices» .entry)) (now («column_prices» .entry)))) r
-        (room (now (costs .exit)) (now (mask .exit))
+        (loan (now (costs .exit)) (now (mask .exit))
         (buffers (now (working .exit)) (now (marks .exit)) (now (columns .exit)) (now («row_prices» .exit)) (now («column_prices» .exit)))) ⌝ }
 {
     if !has_room(

@@ -1,11 +1,7 @@
-// The judgement of a file, record after record. The offsets of fragments and events are kept in two arrays of 64.
+// The scan of a case file: what has been read, and the verdict so far. The offsets of fragments and events are kept beside it, in two arrays of 64.
 ghost use mathlib.Core.Path.{_≡_};
-ghost use Prim.Native.Nat.{_+_, _≤_};
-ghost use lib.ListN.{length};
-ghost use Rattle.storm_case.specs.Scan.{size as Scan·size, fragment as Scan·fragment, event as Scan·event, end as Scan·end, judge-record, judged};
-ghost use Rattle.storm_case.specs.View.{view-scan, with-verdict, decided, Ready, Says};
-use crate::Found;
-use crate::numbers;
+ghost use Prim.Native.Nat.{_+_, _≤_, _<_, _^_};
+ghost use Rattle.storm_case.specs.View.{start as View·start, with-verdict, with-size, with-fragment, with-event, decided};
 
 pub(crate) enum Judged {
     More,
@@ -23,8 +19,22 @@ pub(crate) struct Scan {
     pub judged: Judged,
 }
 
+// Before the first record.
+pub(crate) fn start() -> Scan
+    ensures { λ r. ⌜ r ≡ View·start ⌝ }
+{
+    Scan {
+        at: 0,
+        n: 0,
+        window: 0,
+        fragments: 0,
+        events: 0,
+        judged: Judged::More,
+    }
+}
+
 // The same scan with another verdict.
-fn with_verdict(scan: Scan, judged: Judged) -> Scan
+pub(crate) fn with_verdict(scan: Scan, judged: Judged) -> Scan
     ensures { λ r. ⌜ r ≡ with-verdict scan judged ⌝ }
 {
     Scan {
@@ -37,29 +47,13 @@ fn with_verdict(scan: Scan, judged: Judged) -> Scan
     }
 }
 
-// A size record: first, and only once; n from 1 to 64, a window of at most 1,000,000,000.
-fn judge_size(file: &[u8], scan: Scan, fragments: &[usize], events: &[usize]) -> Scan
-    requires { ⌜ Ready (now file) scan (now fragments) (now events) × (scan .at + 7 ≤ length (now file)) ⌝ }
-    ensures { λ r. ⌜ Says (now (file .entry)) (Scan·size (now (file .entry)) (view-scan scan (now (fragments .entry)) (now (events .entry)))) r
-        (now (fragments .entry)) (now (events .entry)) ⌝ }
+// Behind the size.
+pub(crate) fn with_size(scan: Scan, n: u16, window: u32) -> Scan
+    requires { ⌜ scan .at + 7 < 2 ^ 64 ⌝ }
+    ensures { λ r. ⌜ r ≡ with-size scan n window ⌝ }
 {
-    let at = scan.at;
-    if scan.n != 0 {
-        return with_verdict(scan, Judged::Refused(23, at));
-    }
-    let n = numbers::u16_at(file, at + 1);
-    let window = numbers::u32_at(file, at + 3);
-    if n == 0 {
-        return with_verdict(scan, Judged::Refused(25, at));
-    }
-    if 64 < n {
-        return with_verdict(scan, Judged::Refused(25, at));
-    }
-    if 1_000_000_000 < window {
-        return with_verdict(scan, Judged::Refused(25, at));
-    }
     Scan {
-        at: at + 7,
+        at: scan.at + 7,
         n: n as usize,
         window,
         fragments: 0,
@@ -68,133 +62,43 @@ fn judge_size(file: &[u8], scan: Scan, fragments: &[usize], events: &[usize]) ->
     }
 }
 
-// A fragment: after the size, and not one too many.
-fn judge_fragment(file: &[u8], scan: Scan, fragments: &mut [usize], events: &[usize]) -> Scan
-    requires { ⌜ Ready (now file) scan (now fragments) (now events) × (scan .at + 9 ≤ length (now file)) ⌝ }
-    ensures { λ r. ⌜ Says (now (file .entry)) (Scan·fragment (now (file .entry)) (view-scan scan (now (fragments .entry)) (now (events .entry)))) r
-        (now (fragments .exit)) (now (events .entry)) ⌝ }
+// The same scan behind a fragment.
+pub(crate) fn with_fragment(scan: Scan) -> Scan
+    requires { ⌜ (scan .at + 9 < 2 ^ 64) × (scan .fragments ≤ 64) ⌝ }
+    ensures { λ r. ⌜ r ≡ with-fragment scan ⌝ }
 {
-    let at = scan.at;
-    let count = scan.fragments;
-    if scan.n == 0 {
-        return with_verdict(scan, Judged::Refused(23, at));
-    }
-    if count == scan.n {
-        return with_verdict(scan, Judged::Refused(24, at));
-    }
-    fragments[count] = at;
     Scan {
-        at: at + 9,
+        at: scan.at + 9,
         n: scan.n,
         window: scan.window,
-        fragments: count + 1,
+        fragments: scan.fragments + 1,
         events: scan.events,
         judged: Judged::More,
     }
 }
 
-// An event: after the size, and not one too many.
-fn judge_event(file: &[u8], scan: Scan, fragments: &[usize], events: &mut [usize]) -> Scan
-    requires { ⌜ Ready (now file) scan (now fragments) (now events) × (scan .at + 7 ≤ length (now file)) ⌝ }
-    ensures { λ r. ⌜ Says (now (file .entry)) (Scan·event (now (file .entry)) (view-scan scan (now (fragments .entry)) (now (events .entry)))) r
-        (now (fragments .entry)) (now (events .exit)) ⌝ }
+// The same scan behind an event.
+pub(crate) fn with_event(scan: Scan) -> Scan
+    requires { ⌜ (scan .at + 7 < 2 ^ 64) × (scan .events ≤ 64) ⌝ }
+    ensures { λ r. ⌜ r ≡ with-event scan ⌝ }
 {
-    let at = scan.at;
-    let count = scan.events;
-    if scan.n == 0 {
-        return with_verdict(scan, Judged::Refused(23, at));
-    }
-    if count == scan.n {
-        return with_verdict(scan, Judged::Refused(24, at));
-    }
-    events[count] = at;
     Scan {
-        at: at + 7,
+        at: scan.at + 7,
         n: scan.n,
         window: scan.window,
         fragments: scan.fragments,
-        events: count + 1,
+        events: scan.events + 1,
         judged: Judged::More,
     }
 }
 
-// The end: not first, not too early, and nothing after it.
-fn judge_end(file: &[u8], scan: Scan, fragments: &[usize], events: &[usize]) -> Scan
-    requires { ⌜ Ready (now file) scan (now fragments) (now events) × (scan .at + 1 ≤ length (now file)) ⌝ }
-    ensures { λ r. ⌜ Says (now (file .entry)) (Scan·end (now (file .entry)) (view-scan scan (now (fragments .entry)) (now (events .entry)))) r
-        (now (fragments .entry)) (now (events .entry)) ⌝ }
-{
-    let at = scan.at;
-    let n = scan.n;
-    if n == 0 {
-        return with_verdict(scan, Judged::Refused(23, at));
-    }
-    if scan.fragments != n {
-        return with_verdict(scan, Judged::Refused(24, at));
-    }
-    if scan.events != n {
-        return with_verdict(scan, Judged::Refused(24, at));
-    }
-    if at + 1 != file.len() {
-        return with_verdict(scan, Judged::Refused(26, at + 1));
-    }
-    with_verdict(scan, Judged::Accepted)
-}
-
-// The record at the scan's offset.
-fn judge_record(file: &[u8], scan: Scan, fragments: &mut [usize], events: &mut [usize]) -> Scan
-    requires { ⌜ Ready (now file) scan (now fragments) (now events) ⌝ }
-    ensures { λ r. ⌜ Says (now (file .entry)) (judge-record (now (file .entry)) (view-scan scan (now (fragments .entry)) (now (events .entry)))) r
-        (now (fragments .exit)) (now (events .exit)) ⌝ }
-{
-    let at = scan.at;
-    match crate::find(file, at) {
-        Found::Cut => with_verdict(scan, Judged::Refused(21, at)),
-        Found::Unknown => with_verdict(scan, Judged::Refused(22, at)),
-        Found::Body(_) => {
-            let kind = file[at];
-            if kind == 1 {
-                return judge_size(file, scan, fragments, events);
-            }
-            if kind == 2 {
-                return judge_fragment(file, scan, fragments, events);
-            }
-            if kind == 3 {
-                return judge_event(file, scan, fragments, events);
-            }
-            judge_end(file, scan, fragments, events)
-        }
-    }
-}
-
-fn is_over(judged: Judged) -> bool
+// Is a verdict there?
+pub(crate) fn is_over(judged: Judged) -> bool
     ensures { λ r. ⌜ r ≡ decided judged ⌝ }
 {
     match judged {
         Judged::More => false,
         Judged::Refused(_, _) => true,
         Judged::Accepted => true,
-    }
-}
-
-// Record after record, until a verdict.
-pub(crate) fn judge_file(file: &[u8], fragments: &mut [usize], events: &mut [usize]) -> Scan
-    requires { ⌜ (length (now fragments) ≡ 64) × (length (now events) ≡ 64) ⌝ }
-    ensures { λ r. ⌜ Says (now (file .entry)) (judged (now (file .entry))) r (now (fragments .exit)) (now (events .exit)) ⌝ }
-{
-    let mut scan = Scan {
-        at: 0,
-        n: 0,
-        window: 0,
-        fragments: 0,
-        events: 0,
-        judged: Judged::More,
-    };
-    loop {
-        let verdict = scan.judged;
-        if is_over(verdict) {
-            return scan;
-        }
-        scan = judge_record(file, scan, fragments, events);
     }
 }

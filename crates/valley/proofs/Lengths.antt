@@ -13,16 +13,14 @@ use Rattle.lines.proofs.Sumsℤ.{sumℤ-pos}
 use Rattle.assignment.specs.Problem.{column, AllowedPairing, total}
 use Rattle.storm_case.specs.declared.Hut.{Hut}
 use Rattle.storm_case.specs.declared.Hut.the-variants.{At, Absent}
-use Rattle.storm_case.specs.Records.{u16-at}
+use Rattle.storm_case.specs.Numbers.{AreBytes}
 use Rattle.storm_case.specs.Scan.{Scan, Judged, more, refused, accepted, judged}
 use Rattle.storm_case.specs.Case.{row-area, column-area, clock-error, may-pair, hut-of, hut-in, hut}
 use Rattle.storm_case.specs.Pair.{clock-cost}
+use Rattle.storm_case.proofs.FormatBytes.{small16}
 use Rattle.text.specs.Numbers.{sign, signed, refusal}
 use Rattle.text.proofs.NumberLaws.{decimal-short}
 use Rattle.valley.specs.Lines.{row-line, row-lines, total-line}
-
-abbrev pub Bytes : List ℕ → Type 0
-Bytes file = (i : ℕ) → getD file i 0 < 256
 
 -- ---- a row's line
 
@@ -33,19 +31,14 @@ short-line Absent column small c = omega arith
 short-line (At number) column small c =
     simp length-append (omega (arith, decimal-short 4 number (omega (arith, small number refl)), decimal-short 1 column (omega arith)))
 
--- two bytes write a number below 65,536
-two-bytes : (file : List ℕ) → Bytes file → (p : ℕ) → u16-at file p < 65536
-unfolding u16-at
-two-bytes file bytes p = omega (arith, bytes p, bytes (p + 1))
-
-hut-small : (file : List ℕ) → Bytes file → (i number : ℕ) → hut file i ≡ At number → number < 65536
+hut-small : (file : List ℕ) → AreBytes file → (i number : ℕ) → hut file i ≡ At number → number < 65536
 unfolding hut hut-in hut-of
 hut-small file bytes i number = go (judged file)
   where
     here : (s : Scan) (b : Bool) → cond b (At (hut-of file s i)) Absent ≡ At number → number < 65536
     here s true e =
         let q : hut-of file s i ≡ number = cc in
-        omega (arith, two-bytes file bytes (getD (s .fragments) i 0 + 1))
+        omega (arith, small16 file (getD (s .fragments) i 0 + 1) bytes)
     here s false e = let z : _≡_ {A = ℕ} 0 1 = cc in absurd (omega arith)
 
     go : (j : Judged) → hut-in file i j ≡ At number → number < 65536
@@ -53,7 +46,7 @@ hut-small file bytes i number = go (judged file)
     go (refused k place) e = let z : _≡_ {A = ℕ} 0 1 = cc in absurd (omega arith)
     go (accepted s) e = here s (ltb i (s .n)) e
 
-pub short-rows : (file columns : List ℕ) → Bytes file → (n : ℕ)
+pub short-rows : (file columns : List ℕ) → AreBytes file → (n : ℕ)
     → ((i : ℕ) → i < n → getD columns i 0 < 64) → length (row-lines file columns n) ≤ 9 * n
 unfolding row-lines
 short-rows file columns bytes zero below = omega arith

@@ -2,3 +2,4 @@ pub mod LineLaws
 pub mod Samples
 pub mod Lengths
 pub mod Theorems
+pub mod Closed

@@ -4,8 +4,9 @@ use mathlib.Core.List.{[], _∷_}
 use Prim.Native.Nat.{ℕ}
 use lib.IntN.{ℤ, pos}
 use Rattle.storm_case.specs.declared.pair.Pairs.{Pairs}
-use Rattle.storm_case.specs.Records.{known, body-length, found, u16-at, u32-at}
-use Rattle.storm_case.specs.Scan.{bad-size, size, fragment, event, end, record-of, judge-record, judge-from, judged}
+use Rattle.records.specs.Records.{known, body-length, found}
+use Rattle.storm_case.specs.Numbers.{u16-at, u32-at}
+use Rattle.storm_case.specs.Scan.{bad-size, size, line, end, by-kind, record-of, judge-record, judge-from, judged}
 use Rattle.storm_case.specs.Case.{hut-of, hut-in, hut}
 use Rattle.storm_case.specs.Pair.{unpaired}
 use Rattle.storm_case.proofs.Samples.{example}
@@ -20,7 +21,7 @@ settled number total =
 -- `7 0`, `9 1`, `TOTAL 800`
 pub example-lines : lines example (settled 0 (pos 800)) (0 ∷ 1 ∷ [])
     ≡ 55 ∷ 32 ∷ 48 ∷ 10 ∷ 57 ∷ 32 ∷ 49 ∷ 10 ∷ 84 ∷ 79 ∷ 84 ∷ 65 ∷ 76 ∷ 32 ∷ 56 ∷ 48 ∷ 48 ∷ 10 ∷ []
-unfolding lines row-lines row-line total-line signed sign decimal decimal-from hut hut-in hut-of judged judge-from judge-record record-of size fragment event end bad-size found known body-length u16-at u32-at
+unfolding lines row-lines row-line total-line signed sign decimal decimal-from hut hut-in hut-of judged judge-from judge-record record-of by-kind size line end bad-size found known body-length u16-at u32-at
 example-lines = refl
 
 -- `NO PAIRING`

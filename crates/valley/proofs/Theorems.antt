@@ -1,33 +1,33 @@
 -- Theorems of what is printed: one text for a file, the first 4,096 bytes decide it, and the program's buffer holds all of it.
 use mathlib.Core.Path.{_≡_, refl, sym, ap, _∙_}
-use mathlib.Core.Bool.{true}
 use mathlib.Core.List.{List}
 use Prim.Native.Nat.{ℕ, zero, suc, _≤_, _<_}
 use native.Mathlib.Omega.{arith}
 use lib.ListN.{length, getD, take, length-append}
 use lib.Seq.{getD-take}
 use Rattle.lines.proofs.Tests.{cases}
-use Rattle.steps.proofs.Theorems.{only-answer}
 use Rattle.storm_case.specs.declared.pair.Pairs.{Pairs}
+use Rattle.storm_case.specs.Numbers.{AreBytes}
 use Rattle.storm_case.specs.Scan.{Scan, Judged, more, refused, accepted, judged}
-use Rattle.storm_case.specs.Pair.{Room, fits, front, enough-room, Solved, PairPromise}
+use Rattle.storm_case.specs.Pair.{Loan, fresh, front, Solved, PairPromise}
+use Rattle.storm_case.proofs.Fronts.{fresh-room}
 use Rattle.storm_case.proofs.ScanLaws.{never-more, accepted-filled}
 use Rattle.storm_case.proofs.Decides.{cut-hut, refused-early}
-use Rattle.storm_case.proofs.OnlyPairs.{only-pairs, first-pairs}
+use Rattle.storm_case.proofs.OnlyPairs.{OnlyAnswer, only-pairs, first-pairs}
 use Rattle.text.specs.Text.{put}
 use Rattle.text.proofs.PutLaws.{holds-whole}
 use Rattle.valley.specs.Lines.{row-lines, lines}
-use Rattle.valley.specs.Report.{fresh, Reported}
+use Rattle.valley.specs.Report.{Reported}
 use Rattle.valley.proofs.LineLaws.{lines-paired, lines-none, lines-refused}
-use Rattle.valley.proofs.Lengths.{Bytes, short-rows, short-total-line, short-refusal}
+use Rattle.valley.proofs.Lengths.{short-rows, short-total-line, short-refusal}
 
--- two reports of a file are equal: the count, and every byte of the buffer
-pub only-report : {file out : List ℕ} {r r′ : ℕ} {after after′ : List ℕ}
+-- Two reports of a file are equal: the count, and every byte of the buffer. Of the solver only its promise is known here: see `Closed`.
+pub only-report : OnlyAnswer → {file out : List ℕ} {r r′ : ℕ} {after after′ : List ℕ}
     → Reported file out r after → Reported file out r′ after′ → (r ≡ r′) × (after ≡ after′)
-only-report {file} {out} x y =
-    let same = only-pairs (λ t before a a′ b b′ p q. only-answer p q) file fresh (x .promise) (y .promise) in
+only-report only-answer {file} {out} x y =
+    let same = only-pairs only-answer file fresh (x .promise) (y .promise) in
     let text : lines file (x .pairs) (x .filled .rest .columns) ≡ lines file (y .pairs) (y .filled .rest .columns) =
-    ap (λ p. lines file p (x .filled .rest .columns)) (same .0) ∙ ap (λ (f : Room). lines file (y .pairs) (f .rest .columns)) (same .1) in
+    ap (λ p. lines file p (x .filled .rest .columns)) (same .0) ∙ ap (λ (f : Loan). lines file (y .pairs) (f .rest .columns)) (same .1) in
     let whole = x .printed ∙ ap (put out 0) text ∙ sym (y .printed) in
     (ap (λ p. p .0) whole, ap (λ p. p .1) whole)
 
@@ -50,11 +50,7 @@ first-report file x = record {
 
 -- ---- the length
 
-room : enough-room fresh ≡ true
-unfolding fits
-room = refl
-
-module _ (file : List ℕ) (bytes : Bytes file) {p : Pairs} {filled : Room} where
+module _ (file : List ℕ) (bytes : AreBytes file) {p : Pairs} {filled : Loan} where
   solved-fits : (s : Scan) → judged file ≡ accepted s → Solved file s fresh p filled → length (lines file p (filled .rest .columns)) ≤ 594
   unfolding front
   solved-fits s e x =
@@ -79,9 +75,9 @@ module _ (file : List ℕ) (bytes : Bytes file) {p : Pairs} {filled : Room} wher
     where
       go : (j : Judged) → judged file ≡ j → length (lines file p (filled .rest .columns)) ≤ 594
       go (more s) e = absurd (never-more file e)
-      go (accepted s) e = solved-fits s e (x .solved room s e)
+      go (accepted s) e = solved-fits s e (x .solved fresh-room s e)
       go (refused number place) e =
-          let given = x .unread room number place e .0 in
+          let given = x .unread fresh-room number place e .0 in
           let n : p .number ≡ number = ap (λ (q : Pairs). q .number) given in
           let at : p .place ≡ place = ap (λ (q : Pairs). q .place) given in
           let r = refused-early file e in
@@ -89,6 +85,6 @@ module _ (file : List ℕ) (bytes : Bytes file) {p : Pairs} {filled : Room} wher
           (omega (arith, short-refusal number place (r .1) (r .2)))
 
 -- what is written is the whole text
-pub whole-text : (file : List ℕ) → Bytes file → {out : List ℕ} {r : ℕ} {after : List ℕ} (x : Reported file out r after) → 1024 ≤ length out
+pub whole-text : (file : List ℕ) → AreBytes file → {out : List ℕ} {r : ℕ} {after : List ℕ} (x : Reported file out r after) → 1024 ≤ length out
     → take r after ≡ lines file (x .pairs) (x .filled .rest .columns)
 whole-text file bytes x h = holds-whole (record { held = x .printed }) (omega (arith, text-fits file bytes (x .promise)))

@@ -1,10 +1,13 @@
 -- `print_case` meets its contract: what the lists ask follows from the promise of `pair_case`.
-use mathlib.Core.Path.{refl}
 use borrow.Author.Needs.{needs}
-use Rattle.storm_case.specs.Pair.{fits}
+use Rattle.storm_case.proofs.Fronts.{fresh-room}
 use Rattle.price_list.proofs.PromiseLaws.{few-rows, listed}
 use Rattle.price_list.proofs.print_case.Statement.{statement}
 use Rattle.price_list.proofs.print_case.Tie as tie
+
+-- from where the number is looked at to the answer
+abbrev answered : tie.After-struct-known → tie.After-pair-case
+answered number = number .before .before .before .before .before .before .before .before
 
 slice-aggregate-pair-case : tie.Need-slice-aggregate-pair-case
 slice-aggregate-pair-case c = search needs
@@ -31,18 +34,15 @@ pair-case-requires : tie.Need-pair-case-requires
 pair-case-requires c κs = search needs
 
 print-list-requires : tie.Need-print-list-requires
-unfolding fits
 print-list-requires c κs =
-    listed (c .before .before .before .before .before .before .before .before .before .before .before .before .before .before .before .pair-case .ensures) refl
-    (c .before .before .before .before .before .before .if1 .taken)
+    let paired = c .before .before .before .before .before .before in
+    listed (answered (paired .before) .pair-case .ensures) fresh-room (paired .if1 .taken)
 
 returns : tie.Need-returns
 returns c = search needs
 
 print-block-requires : tie.Need-print-block-requires
-unfolding fits
-print-block-requires c κs =
-    few-rows (c .before .before .before .before .before .before .before .before .before .before .before .pair-case .ensures) refl
+print-block-requires c κs = let unpaired = c .before .before in few-rows (answered (unpaired .before) .pair-case .ensures) fresh-room
 
 returns-2 : tie.Need-returns-2
 returns-2 c = search needs

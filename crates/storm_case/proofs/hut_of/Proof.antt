@@ -5,6 +5,10 @@ use Rattle.storm_case.proofs.CaseLaws.{hut-more, hut-refused, hut-past,
 use Rattle.storm_case.proofs.hut_of.Statement.{statement}
 use Rattle.storm_case.proofs.hut_of.Tie as tie
 
+-- from the verdict to the judgement
+abbrev judged : tie.After-events2 → tie.After-judge-file
+judged verdict = verdict .before .before
+
 slice-aggregate-judge-file : tie.Need-slice-aggregate-judge-file
 slice-aggregate-judge-file c = search needs
 
@@ -31,25 +35,32 @@ array-read-u16-at c = search needs
 
 add-u16-at : tie.Need-add-u16-at
 add-u16-at c =
-    let h = fragment-inside _ _ (c .before .before .before .before .before .judge-file .ensures) (c .before .enum-told3 .given .1) (c .if1 .taken) in
+    let accepted = c .before in
+    let inside = fragment-inside _ _ (judged (accepted .before .before) .judge-file .ensures) (accepted .enum-told3 .given .1) (c .if1 .taken) in
     search needs
 
 u16-at-requires : tie.Need-u16-at-requires
 u16-at-requires c κs =
-    let h = fragment-inside _ _ (c .before .before .before .before .before .judge-file .ensures) (c .before .enum-told3 .given .1) (c .if1 .taken) in
+    let accepted = c .before in
+    let inside = fragment-inside _ _ (judged (accepted .before .before) .judge-file .ensures) (accepted .enum-told3 .given .1) (c .if1 .taken) in
     omega arith
 
 returns : tie.Need-returns
-returns c = hut-there _ _ (c .before .before .before .before .before .before .judge-file .ensures) (c .before .before .enum-told3 .given .1) (c .before .if1 .taken) (c .u16-at .ensures)
+returns c =
+    let row = c .before in
+    let accepted = row .before in
+    hut-there _ _ (judged (accepted .before .before) .judge-file .ensures) (accepted .enum-told3 .given .1) (row .if1 .taken) (c .u16-at .ensures)
 
 returns-2 : tie.Need-returns-2
-returns-2 c = hut-more _ _ (c .before .before .before .before .judge-file .ensures) (c .enum-told .given .1)
+returns-2 c = hut-more _ _ (judged (c .before .before) .judge-file .ensures) (c .enum-told .given .1)
 
 returns-3 : tie.Need-returns-3
-returns-3 c = hut-refused _ _ (c .before .before .before .before .judge-file .ensures) (c .enum-told2 .given .1)
+returns-3 c = hut-refused _ _ (judged (c .before .before) .judge-file .ensures) (c .enum-told2 .given .1)
 
 returns-4 : tie.Need-returns-4
-returns-4 c = hut-past _ _ (c .before .before .before .before .before .judge-file .ensures) (c .before .enum-told3 .given .1) (c .if1 .left)
+returns-4 c =
+    let accepted = c .before in
+    hut-past _ _ (judged (accepted .before .before) .judge-file .ensures) (accepted .enum-told3 .given .1) (c .if1 .left)
 
 pub hut-of-spec : {M : Type 1} → statement M
 hut-of-spec =

@@ -4,22 +4,24 @@ use native.Mathlib.Omega.{arith}
 use borrow.Author.Needs.{needs}
 use lib.IntN.{pos}
 use lib.ListN.{getD}
+use mir.Syntax.{w64}
+use Rattle.lines.proofs.Wide.{back, wide-fits, wide-back}
 use Rattle.price_list.specs.Lines.{allowed-of}
-use Rattle.price_list.proofs.PlaceLaws.{cell-place, wide-fits, wide-back, back}
+use Rattle.price_list.proofs.PlaceLaws.{cell-place}
 use Rattle.price_list.proofs.list.put_allowed_of.Statement.{statement}
 use Rattle.price_list.proofs.list.put_allowed_of.Tie as tie
 
 mul-place : tie.Need-mul-place
-mul-place c = let s = c .before in omega (arith, cell-place _ _ _ (s .pre))
+mul-place c = let s = c .before in omega (arith, cell-place (s .pre))
 
 add-place : tie.Need-add-place
-add-place c = let s = c .before in omega (arith, cell-place _ _ _ (s .pre))
+add-place c = let s = c .before in omega (arith, cell-place (s .pre))
 
 mul-difference : tie.Need-mul-difference
-mul-difference c = let s = c .before in omega (arith, cell-place _ _ _ (s .pre))
+mul-difference c = let s = c .before in omega (arith, cell-place (s .pre))
 
 element-copy-out-difference : tie.Need-element-copy-out-difference
-element-copy-out-difference c = let s = c .before in omega (arith, cell-place _ _ _ (s .pre))
+element-copy-out-difference c = let s = c .before in omega (arith, cell-place (s .pre))
 
 cast-difference : tie.Need-cast-difference
 cast-difference c = search (wide-fits, needs)
@@ -37,10 +39,10 @@ element-copy-out-put-allowed-2 : tie.Need-element-copy-out-put-allowed-2
 element-copy-out-put-allowed-2 c = search needs
 
 mul-put-allowed-3 : tie.Need-mul-put-allowed-3
-mul-put-allowed-3 c = let s = c .before .before .before .before .before in omega (arith, cell-place _ _ _ (s .pre))
+mul-put-allowed-3 c = let s = c .before .before .before .before .before in omega (arith, cell-place (s .pre))
 
 element-copy-out-put-allowed-3 : tie.Need-element-copy-out-put-allowed-3
-element-copy-out-put-allowed-3 c = let s = c .before .before .before .before .before in omega (arith, cell-place _ _ _ (s .pre))
+element-copy-out-put-allowed-3 c = let s = c .before .before .before .before .before in omega (arith, cell-place (s .pre))
 
 put-allowed-requires : tie.Need-put-allowed-requires
 put-allowed-requires c κs = search needs
@@ -55,9 +57,9 @@ returns c =
     let a = cell .before .before .args in
     let place = a .row * a .n + a .event in
     let cost = wide-back (getD (a .costs .now) place (pos 0)) (cell .difference .given) in
-    let row-price = back (getD (a .row-prices .now) (a .row) (pos 0)) (c .before .before .before .before .before .put-allowed-arg2 .given) in
-    let event-price = back (getD (a .column-prices .now) (a .event) (pos 0)) (c .before .before .before .before .put-allowed-arg3 .given) in
-    let spare = back (getD (a .working .now) place (pos 0)) (c .before .before .before .put-allowed-arg4 .given) in
+    let row-price = back w64 (getD (a .row-prices .now) (a .row) (pos 0)) (c .before .before .before .before .before .put-allowed-arg2 .given) in
+    let event-price = back w64 (getD (a .column-prices .now) (a .event) (pos 0)) (c .before .before .before .before .put-allowed-arg3 .given) in
+    let spare = back w64 (getD (a .working .now) place (pos 0)) (c .before .before .before .put-allowed-arg4 .given) in
     rw (cost, row-price, event-price, spare) at (c .before .before .put-allowed .ensures)
 
 pub put-allowed-of-spec : {M : Type 1} → statement M

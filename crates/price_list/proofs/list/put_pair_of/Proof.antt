@@ -4,8 +4,10 @@ use native.Mathlib.Omega.{arith}
 use borrow.Author.Needs.{needs}
 use lib.IntN.{pos}
 use lib.ListN.{getD}
+use mir.Syntax.{w64}
+use Rattle.lines.proofs.Wide.{back, wide-fits, wide-back}
 use Rattle.price_list.specs.Lines.{pair-of}
-use Rattle.price_list.proofs.PlaceLaws.{pair-place, wide-fits, wide-back, back}
+use Rattle.price_list.proofs.PlaceLaws.{pair-place}
 use Rattle.price_list.proofs.list.put_pair_of.Statement.{statement}
 use Rattle.price_list.proofs.list.put_pair_of.Tie as tie
 
@@ -65,8 +67,8 @@ returns c =
     let a = hut .before .before .before .before .before .args in
     let event = getD (a .columns .now) (a .row) 0 in
     let cost = wide-back (getD (a .costs .now) (a .row * a .n + event) (pos 0)) (hut .before .difference .given) in
-    let row-price = back (getD (a .row-prices .now) (a .row) (pos 0)) (c .before .before .before .before .put-pair-arg2 .given) in
-    let event-price = back (getD (a .column-prices .now) event (pos 0)) (c .before .before .before .put-pair-arg3 .given) in
+    let row-price = back w64 (getD (a .row-prices .now) (a .row) (pos 0)) (c .before .before .before .before .put-pair-arg2 .given) in
+    let event-price = back w64 (getD (a .column-prices .now) event (pos 0)) (c .before .before .before .put-pair-arg3 .given) in
     rw (hut .hut-of .ensures, cost, row-price, event-price) at (c .before .before .put-pair .ensures)
 
 pub put-pair-of-spec : {M : Type 1} → statement M

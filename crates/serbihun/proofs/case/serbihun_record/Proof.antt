@@ -2,7 +2,7 @@
 use mathlib.Core.Path.{sym, ap, _∙_}
 use native.Mathlib.Omega.{arith}
 use borrow.Author.Needs.{needs}
-use Rattle.storm_case.proofs.RecordLaws.{found-fits}
+use Rattle.records.proofs.RecordLaws.{found-fits}
 use Rattle.serbihun.specs.Case.{record-at}
 use Rattle.serbihun.proofs.case.serbihun_record.Statement.{statement}
 use Rattle.serbihun.proofs.case.serbihun_record.Tie as tie
@@ -14,7 +14,7 @@ enum-known-length : tie.Need-enum-known-length
 enum-known-length c = search needs
 
 add-start : tie.Need-add-start
-add-start c = omega (arith, found-fits _ _ (c .before .before .before .find .ensures) (c .before .length .given .1))
+add-start c = omega (arith, found-fits _ _ (c .before .before .before .find .ensures .exact) (c .before .length .given .1))
 
 enum-told : tie.Need-enum-told
 enum-told c = search needs
@@ -24,15 +24,15 @@ enum-told-2 c = search needs
 
 returns : tie.Need-returns
 unfolding record-at
-returns c = ap (record-at _) (sym (c .before .length .given .1) ∙ c .before .before .before .find .ensures)
+returns c = ap (record-at _) (sym (c .before .length .given .1) ∙ c .before .before .before .find .ensures .exact)
 
 returns-2 : tie.Need-returns-2
 unfolding record-at
-returns-2 c = ap (record-at _) (sym (c .enum-told .given .1) ∙ c .before .before .find .ensures)
+returns-2 c = ap (record-at _) (sym (c .enum-told .given .1) ∙ c .before .before .find .ensures .exact)
 
 returns-3 : tie.Need-returns-3
 unfolding record-at
-returns-3 c = ap (record-at _) (sym (c .enum-told2 .given .1) ∙ c .before .before .find .ensures)
+returns-3 c = ap (record-at _) (sym (c .enum-told2 .given .1) ∙ c .before .before .find .ensures .exact)
 
 pub serbihun-record-spec : {M : Type 1} → statement M
 serbihun-record-spec =

@@ -3,7 +3,7 @@ use borrow.Author.Needs.{needs}
 use mathlib.Core.Path.{refl}
 use Prim.Native.Nat.{_+_}
 use native.Mathlib.Omega.{arith}
-use Rattle.storm_case.specs.Records.{u16-at}
+use Rattle.storm_case.specs.Numbers.{u16-at}
 use Rattle.storm_case.proofs.numbers.u16_at.Statement.{statement}
 use Rattle.storm_case.proofs.numbers.u16_at.Tie as tie
 

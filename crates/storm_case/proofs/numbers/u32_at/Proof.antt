@@ -1,6 +1,6 @@
 -- `numbers::u32_at` reads two numbers of two bytes, the lower first.
 use borrow.Author.Needs.{needs}
-use Rattle.storm_case.specs.Records.{u32-at}
+use Rattle.storm_case.specs.Numbers.{u32-at}
 use Rattle.storm_case.proofs.numbers.u32_at.Statement.{statement}
 use Rattle.storm_case.proofs.numbers.u32_at.Tie as tie
 

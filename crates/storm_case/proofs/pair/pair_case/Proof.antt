@@ -1,11 +1,23 @@
 -- `pair_case` meets its contract, by the room that is lent and by what the file says.
-use mathlib.Core.Path.{sym, _∙_}
-use borrow.Author.Tests.{not-true, not-false}
-use Rattle.steps.specs.Lent.{buffers}
-use Rattle.storm_case.proofs.PairLaws.{pair-crowded, pair-unread, pair-asks, pair-solved}
 use borrow.Author.Needs.{needs}
+use Rattle.steps.specs.Lent.{buffers}
+use Rattle.storm_case.proofs.Fronts.{test-passed, test-failed}
+use Rattle.storm_case.proofs.PairLaws.{pair-crowded, pair-unread, pair-asks, pair-solved}
 use Rattle.storm_case.proofs.pair.pair_case.Statement.{statement}
 use Rattle.storm_case.proofs.pair.pair_case.Tie as tie
+
+-- from what is lent to the solver to the accepted file; from the file's number to the reader; from there to the room, and to the start
+abbrev accepted : tie.After-solve-cells-arg7 → tie.Else2
+accepted lent = lent .before .before .before .before .before .before .before
+
+abbrev read : tie.After-slice-known4 → tie.After-read-case
+read number = number .before .before .before
+
+abbrev room : tie.After-read-case → tie.Else1
+room reader = reader .before .before .before
+
+abbrev begun : tie.After-has-room → tie.Start
+begun test = test .before .before .before .before .before
 
 has-room-requires : tie.Need-has-room-requires
 has-room-requires c κs = search needs
@@ -14,7 +26,7 @@ unpaired-requires : tie.Need-unpaired-requires
 unpaired-requires c κs = search needs
 
 returns : tie.Need-returns
-returns c = pair-crowded (sym (c .before .before .has-room .ensures) ∙ not-true _ (c .before .if1 .taken)) (c .unpaired .ensures)
+returns c = let crowded = c .before in pair-crowded (test-failed (crowded .before .has-room .ensures) (crowded .if1 .taken)) (c .unpaired .ensures)
 
 read-case-requires : tie.Need-read-case-requires
 read-case-requires c κs = search needs
@@ -30,17 +42,19 @@ same-length-2 c = search needs
 
 returns-2 : tie.Need-returns-2
 returns-2 c =
-    let read = c .before .before .before .before .before in
-    let room = read .before .before .before in
-    pair-unread _ _ _ _ _ _ (sym (room .before .has-room .ensures) ∙ not-false _ (room .if1 .left)) (read .read-case .ensures) (c .before .if2 .taken) (c .unpaired2 .ensures)
+    let refused = c .before in
+    let reader = read (refused .before) in
+    let roomy = test-passed (room reader .before .has-room .ensures) (room reader .if1 .left) in
+    pair-unread _ _ _ _ _ _ roomy (reader .read-case .ensures) (refused .if2 .taken) (c .unpaired2 .ensures)
 
 solve-cells-requires : tie.Need-solve-cells-requires
 solve-cells-requires c κs =
-    let read = c .before .before .before .before .before .before .before .before .before .before .before in
-    let room = read .before .before .before in
-    let a = room .before .before .before .before .before .before .args in
-    pair-asks _ _ _ _ _ (buffers (a .working .now) (a .marks .now) (a .columns .now) (a .row-prices .now) (a .column-prices .now)) (sym (room .before .has-room .ensures) ∙ not-false _ (room .if1 .left)) (read .read-case .ensures) (c .before .before .before .before .before .before .before .if2 .left)
-    (read .read-case .kept .1 .0) (read .read-case .kept .1 .1 .0)
+    let reader = read (accepted c .before) in
+    let roomy = test-passed (room reader .before .has-room .ensures) (room reader .if1 .left) in
+    let a = begun (room reader .before) .args in
+    let rest = buffers (a .working .now) (a .marks .now) (a .columns .now) (a .row-prices .now) (a .column-prices .now) in
+    let kept = reader .read-case .kept .1 in
+    pair-asks _ _ _ _ _ rest roomy (reader .read-case .ensures) (accepted c .if2 .left) (kept .0) (kept .1 .0)
 
 same-length-3 : tie.Need-same-length-3
 same-length-3 c = search needs
@@ -66,9 +80,10 @@ same-length-9 c = search needs
 returns-3 : tie.Need-returns-3
 returns-3 c =
     let solved = c .before .before .before .before .before .before .before in
-    let read = solved .before .before .before .before .before .before .before .before .before .before .before .before in
-    let room = read .before .before .before in
-    pair-solved _ _ _ _ _ _ (sym (room .before .has-room .ensures) ∙ not-false _ (room .if1 .left)) (read .read-case .ensures) (solved .before .before .before .before .before .before .before .before .if2 .left) (solved .solve-cells .ensures)
+    let found = accepted (solved .before) in
+    let reader = read (found .before) in
+    let roomy = test-passed (room reader .before .has-room .ensures) (room reader .if1 .left) in
+    pair-solved _ _ _ _ _ _ roomy (reader .read-case .ensures) (found .if2 .left) (solved .solve-cells .ensures)
 
 pub pair-case-spec : {M : Type 1} → statement M
 pair-case-spec =

@@ -1,53 +1,85 @@
 -- `solve_cells` lends the front of each buffer to the solver, and keeps its promise.
 use native.Mathlib.Omega.{arith}
-use Rattle.storm_case.specs.Pair.{front}
-use Rattle.storm_case.proofs.PairLaws.{fitting, solved-front}
-use Rattle.storm_case.proofs.Fronts.{cells-fit, front-long, as-long}
 use borrow.Author.Needs.{needs}
+use Rattle.steps.specs.Lent.{buffers}
+use Rattle.storm_case.specs.Pair.{Loan, loan, front}
+use Rattle.storm_case.proofs.Fronts.{cells-fit, Fronts, fronts}
+use Rattle.storm_case.proofs.PairLaws.{solved-front}
 use Rattle.storm_case.proofs.pair.solve_cells.Statement.{statement}
 use Rattle.storm_case.proofs.pair.solve_cells.Tie as tie
 
+-- what is lent, and its fronts
+abbrev lent : tie.Start → Loan
+lent s =
+    let a = s .args in
+    loan (a .costs .now) (a .mask .now) (buffers (a .working .now) (a .marks .now) (a .columns .now) (a .row-prices .now) (a .column-prices .now))
+
+lent-fronts : (s : tie.Start) → Fronts (s .args .n) (lent s)
+lent-fronts s = fronts (lent s) (s .pre .0) (s .pre .1)
+
+-- back to the budget from each buffer that is lent, one after another; and to the start
+abbrev budget2 : tie.After-solve-assignment-arg2 → tie.After-enough
+budget2 mask = mask .before .before
+
+abbrev budget3 : tie.After-solve-assignment-arg3 → tie.After-enough
+budget3 working = budget2 (working .before)
+
+abbrev budget4 : tie.After-solve-assignment-arg4 → tie.After-enough
+budget4 marks = budget3 (marks .before)
+
+abbrev budget5 : tie.After-solve-assignment-arg5 → tie.After-enough
+budget5 columns = budget4 (columns .before)
+
+abbrev budget6 : tie.After-solve-assignment-arg6 → tie.After-enough
+budget6 row-prices = budget5 (row-prices .before)
+
+abbrev budget7 : tie.After-solve-assignment-arg7 → tie.After-enough
+budget7 column-prices = budget6 (column-prices .before)
+
+abbrev begun : tie.After-enough → tie.Start
+begun budget = budget .before .before .before .before
+
 mul-cells : tie.Need-mul-cells
-mul-cells c = let f = cells-fit (c .before .before .before .pre .0) in omega arith
+mul-cells c = let cells = cells-fit (c .before .before .before .pre .0) in omega arith
 
 enough-requires : tie.Need-enough-requires
 enough-requires c κs = search needs
 
 slice-aggregate-solve-assignment : tie.Need-slice-aggregate-solve-assignment
-slice-aggregate-solve-assignment c = let pre = c .before .before .before .before .before .pre in front-long _ (fitting _ _ _ _ _ _ _ (pre .1) .costs-fit) (cells-fit (pre .0))
+slice-aggregate-solve-assignment c = lent-fronts (begun (c .before)) .costs .long
 
 slice-aggregate-solve-assignment-2 : tie.Need-slice-aggregate-solve-assignment-2
-slice-aggregate-solve-assignment-2 c = let pre = c .before .before .before .before .before .before .pre in front-long _ (fitting _ _ _ _ _ _ _ (pre .1) .mask-fits) (cells-fit (pre .0))
+slice-aggregate-solve-assignment-2 c = lent-fronts (begun (budget2 c)) .mask .long
 
 slice-relend-prefix-solve-assignment : tie.Need-slice-relend-prefix-solve-assignment
-slice-relend-prefix-solve-assignment c = let pre = c .before .before .before .before .before .before .pre in omega (arith, fitting _ _ _ _ _ _ _ (pre .1) .working-fits, cells-fit (pre .0))
+slice-relend-prefix-solve-assignment c = lent-fronts (begun (budget2 c)) .working .inside
 
 slice-aggregate-solve-assignment-3 : tie.Need-slice-aggregate-solve-assignment-3
-slice-aggregate-solve-assignment-3 c = let pre = c .before .before .before .before .before .before .before .pre in front-long _ (fitting _ _ _ _ _ _ _ (pre .1) .working-fits) (cells-fit (pre .0))
+slice-aggregate-solve-assignment-3 c = lent-fronts (begun (budget3 c)) .working .long
 
 slice-relend-prefix-solve-assignment-2 : tie.Need-slice-relend-prefix-solve-assignment-2
-slice-relend-prefix-solve-assignment-2 c = let pre = c .before .before .before .before .before .before .before .pre in omega (arith, fitting _ _ _ _ _ _ _ (pre .1) .marks-fit, cells-fit (pre .0))
+slice-relend-prefix-solve-assignment-2 c = lent-fronts (begun (budget3 c)) .marks .inside
 
 slice-aggregate-solve-assignment-4 : tie.Need-slice-aggregate-solve-assignment-4
-slice-aggregate-solve-assignment-4 c = let pre = c .before .before .before .before .before .before .before .before .pre in front-long _ (fitting _ _ _ _ _ _ _ (pre .1) .marks-fit) (cells-fit (pre .0))
+slice-aggregate-solve-assignment-4 c = lent-fronts (begun (budget4 c)) .marks .long
 
 slice-relend-prefix-solve-assignment-3 : tie.Need-slice-relend-prefix-solve-assignment-3
-slice-relend-prefix-solve-assignment-3 c = let pre = c .before .before .before .before .before .before .before .before .pre in omega (arith, fitting _ _ _ _ _ _ _ (pre .1) .columns-fit, pre .0)
+slice-relend-prefix-solve-assignment-3 c = lent-fronts (begun (budget4 c)) .columns .inside
 
 slice-aggregate-solve-assignment-5 : tie.Need-slice-aggregate-solve-assignment-5
-slice-aggregate-solve-assignment-5 c = let pre = c .before .before .before .before .before .before .before .before .before .pre in front-long _ (fitting _ _ _ _ _ _ _ (pre .1) .columns-fit) (pre .0)
+slice-aggregate-solve-assignment-5 c = lent-fronts (begun (budget5 c)) .columns .long
 
 slice-relend-prefix-solve-assignment-4 : tie.Need-slice-relend-prefix-solve-assignment-4
-slice-relend-prefix-solve-assignment-4 c = let pre = c .before .before .before .before .before .before .before .before .before .pre in omega (arith, fitting _ _ _ _ _ _ _ (pre .1) .row-prices-fit, pre .0)
+slice-relend-prefix-solve-assignment-4 c = lent-fronts (begun (budget5 c)) .row-prices .inside
 
 slice-aggregate-solve-assignment-6 : tie.Need-slice-aggregate-solve-assignment-6
-slice-aggregate-solve-assignment-6 c = let pre = c .before .before .before .before .before .before .before .before .before .before .pre in front-long _ (fitting _ _ _ _ _ _ _ (pre .1) .row-prices-fit) (pre .0)
+slice-aggregate-solve-assignment-6 c = lent-fronts (begun (budget6 c)) .row-prices .long
 
 slice-relend-prefix-solve-assignment-5 : tie.Need-slice-relend-prefix-solve-assignment-5
-slice-relend-prefix-solve-assignment-5 c = let pre = c .before .before .before .before .before .before .before .before .before .before .pre in omega (arith, fitting _ _ _ _ _ _ _ (pre .1) .column-prices-fit, pre .0)
+slice-relend-prefix-solve-assignment-5 c = lent-fronts (begun (budget6 c)) .column-prices .inside
 
 slice-aggregate-solve-assignment-7 : tie.Need-slice-aggregate-solve-assignment-7
-slice-aggregate-solve-assignment-7 c = let pre = c .before .before .before .before .before .before .before .before .before .before .before .pre in front-long _ (fitting _ _ _ _ _ _ _ (pre .1) .column-prices-fit) (pre .0)
+slice-aggregate-solve-assignment-7 c = lent-fronts (begun (budget7 c)) .column-prices .long
 
 solve-assignment-requires : tie.Need-solve-assignment-requires
 solve-assignment-requires c κs = search needs
@@ -74,14 +106,18 @@ returns : tie.Need-returns
 unfolding front
 returns c =
     let called = c .before .before .before .before .before .before .before .before in
-    let budgeted = called .before .before .before .before .before .before .before .before in
-    let begun = budgeted .before .before .before .before in
-    let room = fitting _ _ _ _ _ _ _ (begun .pre .1) in
-    let cells = cells-fit (begun .pre .0) in
+    let budget = budget7 (called .before) in
+    let s = begun budget in
     let kept = called .solve-assignment .kept .1 .1 .1 .1 in
-    solved-front (as-long _ (room .working-fits) cells (kept .0)) (as-long _ (room .marks-fit) cells (kept .1 .0)) (as-long _ (room .columns-fit) (begun .pre .0) (kept .1 .1 .0))
-    (as-long _ (room .row-prices-fit) (begun .pre .0) (kept .1 .1 .1 .0)) (as-long _ (room .column-prices-fit) (begun .pre .0) (kept .1 .1 .1 .1 .0))
-    (budgeted .enough .ensures) (c .paired .ensures) (called .solve-assignment .ensures)
+    solved-front {l = lent s} (lent-fronts s)
+    (record {
+      working = kept .0;
+      marks = kept .1 .0;
+      columns = kept .1 .1 .0;
+      row-prices = kept .1 .1 .1 .0;
+      column-prices = kept .1 .1 .1 .1 .0;
+    })
+    (budget .enough .ensures) (c .paired .ensures) (called .solve-assignment .ensures)
 
 pub solve-cells-spec : {M : Type 1} → statement M
 solve-cells-spec =

@@ -1,0 +1,3 @@
+pub mod RecordLaws
+pub mod Cuts
+pub mod Only
