@@ -23,7 +23,7 @@ use Rattle.steps.specs.Refusal.{refused, verdict}
 use Rattle.steps.specs.Outcome.{judged, Outcome}
 use Rattle.steps.specs.Promise.{Promise}
 use Rattle.steps.proofs.Promised.{promised}
-use Rattle.munkres.proofs.CallLaws.{verdict-1, verdict-2, verdict-3, wrong-length}
+use Rattle.rules.proofs.JudgeLaws.{rule-1, past-1, rule-2, past-2, rule-3}
 use Rattle.serbihun.specs.Bytes.{twos-complement, cost-of, decoded, readable}
 
 -- ---- two's complement
@@ -37,11 +37,11 @@ unfolding twos-complement
 high-half x h = rw (le-ltb x 2_147_483_648 h)
 
 -- the code subtracts in 64 bits: that fits and reads back; the difference fits 32 bits again where it is small
-pub wide-fits : (x k : ℕ) → x < 4_294_967_296 → k ≤ 4_294_967_296 → SFits w64 (toZ w64 x -ℤ pos k)
-wide-fits x k h l = rw (toZ-pos w64 {n = x} (omega arith)) (omega (signed, minus-parts (pos x) (pos k)))
+pub less-fits : (x k : ℕ) → x < 4_294_967_296 → k ≤ 4_294_967_296 → SFits w64 (toZ w64 x -ℤ pos k)
+less-fits x k h l = rw (toZ-pos w64 {n = x} (omega arith)) (omega (signed, minus-parts (pos x) (pos k)))
 
-pub wide-back : (x k : ℕ) → x < 4_294_967_296 → k ≤ 4_294_967_296 → toZ w64 (ofZ w64 (toZ w64 x -ℤ pos k)) ≡ pos x -ℤ pos k
-wide-back x k h l = toZ-ofZ (wide-fits x k h l) ∙ ap (λ z. z -ℤ pos k) (toZ-pos w64 {n = x} (omega arith))
+pub less-back : (x k : ℕ) → x < 4_294_967_296 → k ≤ 4_294_967_296 → toZ w64 (ofZ w64 (toZ w64 x -ℤ pos k)) ≡ pos x -ℤ pos k
+less-back x k h l = toZ-ofZ (less-fits x k h l) ∙ ap (λ z. z -ℤ pos k) (toZ-pos w64 {n = x} (omega arith))
 
 pub narrow-fits : (x k : ℕ) → x < k + 2_147_483_648 → k ≤ x + 2_147_483_648 → SFits w32 (pos x -ℤ pos k)
 narrow-fits x k h l = omega (signed, minus-parts (pos x) (pos k))
@@ -119,24 +119,35 @@ module _ (n : ℕ) (bytes : List ℕ) (some : n ≢ 0) (most : n ≤ 64) (ne : l
 -- ---- refusals 1 to 3 do not depend on the costs
 
 module _ (n : ℕ) (mask : List ℕ) (budget : ℕ) (before : Buffers) where
-  other-length : (costs : List ℤ) → n ≢ 0 → n ≤ 64 → length costs ≢ n * n → refused 3 0 ≡ verdict (task n costs mask budget) 64 before
-  other-length costs some most ne = verdict-3 _ _ some most (sym (wrong-length _ _ (λ r. ne (r .costs))))
+  abbrev Refuses : List ℤ → ℕ → Type 0
+  Refuses costs number = verdict (task n costs mask budget) 64 before ≡ refused number 0
+
+  refuses-1 : n ≡ 0 → (costs : List ℤ) → Refuses costs 1
+  unfolding verdict
+  refuses-1 e costs = rule-1 _ _ _ _ _ e
+
+  refuses-2 : n ≢ 0 → 64 < n → (costs : List ℤ) → Refuses costs 2
+  unfolding verdict
+  refuses-2 some h costs = rule-2 _ _ _ _ _ (past-1 _ _ _ _ _ some) h
+
+  refuses-3 : n ≢ 0 → n ≤ 64 → (costs : List ℤ) → length costs ≢ n * n → Refuses costs 3
+  unfolding verdict
+  refuses-3 some most costs ne = rule-3 _ _ _ _ _ (past-2 _ _ _ _ _ (past-1 _ _ _ _ _ some) most) (rw (ne-eqb (length costs) (n * n) ne))
 
   module _ {a : Answer} {after : Buffers} where
-    alike : (costs costs′ : List ℤ) (number : ℕ) → refused number 0 ≡ verdict (task n costs mask budget) 64 before
-        → refused number 0 ≡ verdict (task n costs′ mask budget) 64 before
+    alike : {costs costs′ : List ℤ} {number : ℕ} → Refuses costs number → Refuses costs′ number
         → Outcome 64 (task n costs mask budget) before a after → Outcome 64 (task n costs′ mask budget) before a after
     unfolding judged
-    alike costs costs′ number e e′ o = record { count = o .count; exact = rw (← e′) (rw (← e) at (o .exact)) }
+    alike e e′ o = record { count = o .count; exact = rw e′ (rw e at (o .exact)) }
 
     -- the costs that are read have the outcome of those that are lent
     read-outcome : (bytes : List ℕ) → Read n bytes → Outcome 64 (task n (table (cost-of bytes) (readable n (length bytes))) mask budget) before a after
         → Outcome 64 (task n (decoded bytes) mask budget) before a after
-    read-outcome bytes (none z) o = alike _ _ 1 (verdict-1 _ _ z) (verdict-1 _ _ z) o
+    read-outcome bytes (none z) o = alike (refuses-1 z _) (refuses-1 z _) o
     read-outcome bytes (whole e) o = rw e at o
-    read-outcome bytes (too-large some h) o = alike _ _ 2 (verdict-2 _ _ some h) (verdict-2 _ _ some h) o
+    read-outcome bytes (too-large some h) o = alike (refuses-2 some h _) (refuses-2 some h _) o
     read-outcome bytes (wrong some most ne) o =
-        alike _ _ 3 (other-length _ some most (none-read n bytes some most ne)) (other-length _ some most (others-lent n bytes some most ne)) o
+        alike (refuses-3 some most _ (none-read n bytes some most ne)) (refuses-3 some most _ (others-lent n bytes some most ne)) o
 
     -- the promise on the costs that were read is the promise on those that are lent
     pub read-promise : (bytes : List ℕ) (cells : ℕ) (costs : List ℤ) → cells ≡ readable n (length bytes) → costs ≡ table (cost-of bytes) cells

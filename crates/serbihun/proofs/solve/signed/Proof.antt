@@ -4,7 +4,7 @@ use native.Mathlib.Omega.{arith}
 use borrow.Author.Needs.{needs}
 use mir.Syntax.{w32}
 use mir.Facts.{toZ-pos, toZ-ofZ}
-use Rattle.serbihun.proofs.ByteLaws.{low-half, high-half, wide-fits, wide-back, narrow-fits}
+use Rattle.serbihun.proofs.ByteLaws.{low-half, high-half, less-fits, less-back, narrow-fits}
 use Rattle.serbihun.proofs.solve.signed.Statement.{statement}
 use Rattle.serbihun.proofs.solve.signed.Tie as tie
 
@@ -18,19 +18,19 @@ cast-result-2 : tie.Need-cast-result-2
 cast-result-2 c = search needs
 
 sub-result : tie.Need-sub-result
-sub-result c = wide-fits _ 4_294_967_296 (c .before .fits .x .fits) (omega arith)
+sub-result c = less-fits _ 4_294_967_296 (c .before .fits .x .fits) (omega arith)
 
 cast-result-3 : tie.Need-cast-result-3
 cast-result-3 c =
     let x = c .before .args .x in
     let l = c .before .fits .x .fits in
-    rw (wide-back x 4_294_967_296 l (omega arith)) (narrow-fits x 4_294_967_296 (omega (arith, l)) (omega (arith, c .if1 .left)))
+    rw (less-back x 4_294_967_296 l (omega arith)) (narrow-fits x 4_294_967_296 (omega (arith, l)) (omega (arith, c .if1 .left)))
 
 returns-2 : tie.Need-returns-2
 returns-2 c =
     let x = c .before .args .x in
     let l = c .before .fits .x .fits in
-    rw (wide-back x 4_294_967_296 l (omega arith))
+    rw (less-back x 4_294_967_296 l (omega arith))
     (toZ-ofZ (narrow-fits x 4_294_967_296 (omega (arith, l)) (omega (arith, c .if1 .left))) ∙ sym (high-half x (c .if1 .left)))
 
 pub signed-spec : {M : Type 1} → statement M
