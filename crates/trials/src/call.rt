@@ -10,6 +10,7 @@ use crate::list::held_values;
 use crate::list::named;
 use crate::list::read_costs;
 use crate::list::read_mask;
+use crate::numbers::LARGEST;
 use crate::numbers::count_to;
 use crate::words::after_word;
 use munkres::solve_assignment;
@@ -17,8 +18,6 @@ use steps::Answer;
 
 // The longest buffer that is lent, of 65 rows.
 const LONGEST: usize = 4225;
-
-const LARGEST: usize = 18_446_744_073_709_551_615;
 
 const LARGEST_BUDGET: usize = 4_294_967_295;
 
@@ -126,6 +125,11 @@ fn solve(
     )
 }
 
+fn read_cells(text: &[u8], from: usize, costs: &mut [i32], mask: &mut [u8]) {
+    let list = read_costs(text, named_costs(text, fresh(from)), costs);
+    read_mask(text, named_mask(text, list), mask);
+}
+
 // Reads size, budget, costs and mask, and calls.
 fn lent(
     text: &[u8],
@@ -140,8 +144,7 @@ fn lent(
 ) -> List {
     let n = count_to(text, after_word(text, from, b"n"), LARGEST);
     let budget = count_to(text, after_word(text, n.at, b"budget"), LARGEST_BUDGET);
-    let costs_read = read_costs(text, named_costs(text, fresh(budget.at)), costs);
-    read_mask(text, named_mask(text, costs_read), mask);
+    read_cells(text, budget.at, costs, mask);
     solve(
         text,
         budget.at,

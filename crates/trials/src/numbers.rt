@@ -7,7 +7,7 @@ use crate::words::next_word;
 // The number X: a cost out of range, for a forbidden cell, where it is not looked at.
 const X: usize = 2_000_000_000;
 
-const LARGEST: usize = 18_446_744_073_709_551_615;
+pub(crate) const LARGEST: usize = 18_446_744_073_709_551_615;
 
 // The largest number that may have another digit behind it.
 const TENTH: usize = 1_844_674_407_370_955_161;
@@ -55,6 +55,7 @@ fn with_byte(mut number: Number, byte: u8) -> Number {
 
 // The number of a word that ends there, which is at most `limit`.
 fn ended(mut number: Number, at: usize, limit: usize) -> Number {
+    let _t = 1u8;
     if number.at == BEHIND {
         return number;
     }
