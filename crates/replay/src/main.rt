@@ -1,22 +1,24 @@
-// Replays the answers of the published crate munkres on the solver. The file `answers` holds them; rust/oracle/README.md has its format.
+// Replays stored answers: of the published crate munkres, on the solver (the file `answers`), and of the rules of the case file, on the case
+// reader (`files`). rust/oracle/README.md and rust/cases/README.md have the formats; a record has its length before it in both.
+mod answer;
+mod file;
 mod number;
-mod record;
+mod same;
 
 use libc::STDOUT_FILENO;
-use record::Outcome;
-
-// The longest record without its length.
-const LONGEST: usize = 50_796;
 
 // More records than there are.
 const MANY: u64 = 1_000_000;
 
-// How many records there were, and of what outcome; whether another may follow.
+// What replaying a record came to: as stored, with its number, or not as stored.
+pub(crate) enum Outcome {
+    Same(u8),
+    Different,
+}
+
+// How many records there were, and how many were as stored; whether another may follow.
 struct Tally {
     records: u64,
-    paired: u64,
-    no_pairing: u64,
-    unfinished: u64,
     equal: u64,
     different: u64,
     more: bool,
@@ -29,7 +31,10 @@ fn raised(count: u64) -> u64 {
     count
 }
 
-fn as_stored(mut tally: Tally) -> Tally {
+// One more record that is as stored, with this number.
+fn as_stored(mut tally: Tally, number: u8, numbers: &mut [u64; 256]) -> Tally {
+    let at = number as usize;
+    numbers[at] = raised(numbers[at]);
     tally.records = raised(tally.records);
     tally.equal = raised(tally.equal);
     tally
@@ -37,8 +42,7 @@ fn as_stored(mut tally: Tally) -> Tally {
 
 // Says which record is not as stored; the first is record 0.
 fn differs(mut tally: Tally) -> Tally {
-    io::write_all(STDOUT_FILENO, b"different: record ");
-    io::print_decimal(STDOUT_FILENO, tally.records);
+    print_count(b"different: record ", tally.records);
     io::write_all(STDOUT_FILENO, b"\n");
     tally.records = raised(tally.records);
     tally.different = raised(tally.different);
@@ -50,22 +54,11 @@ fn stopped(mut tally: Tally) -> Tally {
     tally
 }
 
-fn counted(mut tally: Tally, outcome: Outcome) -> Tally {
-    match outcome {
-        Outcome::Paired => {
-            tally.paired = raised(tally.paired);
-            as_stored(tally)
-        }
-        Outcome::NoPairing => {
-            tally.no_pairing = raised(tally.no_pairing);
-            as_stored(tally)
-        }
-        Outcome::Unfinished => {
-            tally.unfinished = raised(tally.unfinished);
-            as_stored(tally)
-        }
-        Outcome::Different => differs(tally),
+fn replay(answers: bool, record: &[u8]) -> Outcome {
+    if answers {
+        return answer::replay(record);
     }
+    file::replay(record)
 }
 
 // Four bytes 0 were read: nothing may follow them.
@@ -78,14 +71,23 @@ fn replay_end(fd: i32, tally: Tally) -> Tally {
 }
 
 // Reads a record of the buffer's length and replays it.
-fn replay_record(fd: i32, record: &mut [u8], tally: Tally) -> Tally {
+fn replay_record(
+    fd: i32,
+    answers: bool,
+    record: &mut [u8],
+    tally: Tally,
+    numbers: &mut [u64; 256],
+) -> Tally {
     if io::read_full(fd, record) < record.len() {
         return stopped(differs(tally));
     }
-    counted(tally, record::replay(record))
+    match replay(answers, record) {
+        Outcome::Same(number) => as_stored(tally, number, numbers),
+        Outcome::Different => differs(tally),
+    }
 }
 
-fn replay_next(fd: i32, tally: Tally) -> Tally {
+fn replay_next(fd: i32, answers: bool, tally: Tally, numbers: &mut [u64; 256]) -> Tally {
     let mut size = [0u8; 4];
     if io::read_full(fd, &mut size) < 4 {
         return stopped(differs(tally));
@@ -94,18 +96,26 @@ fn replay_next(fd: i32, tally: Tally) -> Tally {
     if length == 0 {
         return replay_end(fd, tally);
     }
-    if LONGEST < length {
+    if number::BEHIND <= length {
         return stopped(differs(tally));
     }
     let mut record = io::large_buffer();
-    replay_record(fd, &mut record[..length], tally)
+    replay_record(fd, answers, &mut record[..length], tally, numbers)
 }
 
-fn replay_all(fd: i32, start: Tally) -> Tally {
-    let mut tally = start;
+// All records behind the header; `numbers` counts those of each number that are as stored.
+fn replay_all(fd: i32, answers: bool, numbers: &mut [u64; 256]) -> Tally {
+    let mut header = [0u8; 128];
+    io::read_full(fd, &mut header);
+    let mut tally = Tally {
+        records: 0,
+        equal: 0,
+        different: 0,
+        more: true,
+    };
     let mut turns = MANY;
     while turns > 0 && tally.more {
-        tally = replay_next(fd, tally);
+        tally = replay_next(fd, answers, tally, numbers);
         turns -= 1;
     }
     tally
@@ -116,34 +126,40 @@ fn print_count(what: &[u8], count: u64) {
     io::print_decimal(STDOUT_FILENO, count);
 }
 
-fn print(tally: Tally) {
-    print_count(b"paired ", tally.paired);
-    print_count(b"\nno pairing ", tally.no_pairing);
-    print_count(b"\nunfinished ", tally.unfinished);
-    print_count(b"\nreplayed ", tally.records);
-    print_count(b" answers of the crate: ", tally.equal);
-    print_count(b" equal, ", tally.different);
-    io::write_all(STDOUT_FILENO, b" different\n");
+fn print_numbers(answers: bool, numbers: &[u64; 256]) {
+    if answers {
+        print_count(b"paired ", numbers[0]);
+        print_count(b"\nno pairing ", numbers[6]);
+        print_count(b"\nunfinished ", numbers[7]);
+        return;
+    }
+    print_count(b"accepted ", numbers[0]);
+    print_count(b"\nnumber 20: ", numbers[20]);
+    print_count(b"\nnumber 21: ", numbers[21]);
+    print_count(b"\nnumber 22: ", numbers[22]);
+    print_count(b"\nnumber 23: ", numbers[23]);
+    print_count(b"\nnumber 24: ", numbers[24]);
+    print_count(b"\nnumber 25: ", numbers[25]);
+    print_count(b"\nnumber 26: ", numbers[26]);
 }
 
-fn main() {
-    let path = b"answers";
+fn replay_stored(path: &[u8], answers: bool, what: &[u8]) {
     let fd = os::open_read(path);
     if fd < 0 {
         os::fail(path);
         return;
     }
-    let mut header = [0u8; 128];
-    io::read_full(fd, &mut header);
-    let tally = Tally {
-        records: 0,
-        paired: 0,
-        no_pairing: 0,
-        unfinished: 0,
-        equal: 0,
-        different: 0,
-        more: true,
-    };
-    print(replay_all(fd, tally));
+    let mut numbers = [0u64; 256];
+    let tally = replay_all(fd, answers, &mut numbers);
     libc::close(fd);
+    print_numbers(answers, &numbers);
+    print_count(b"\nreplayed ", tally.records);
+    print_count(what, tally.equal);
+    print_count(b" equal, ", tally.different);
+    io::write_all(STDOUT_FILENO, b" different\n");
+}
+
+fn main() {
+    replay_stored(b"answers", true, b" answers of the crate: ");
+    replay_stored(b"files", false, b" files: ");
 }

@@ -1,13 +1,10 @@
 // The numbers of a record, read from its bytes: little-endian, the signed ones in two's complement. A byte outside the record is read as 0.
 
-// What the buffers of values hold before the call.
-pub const JUNK: i64 = 6_148_914_691_236_517_205;
-
 // A position behind every record.
-pub const BEHIND: usize = 65_536;
+pub(crate) const BEHIND: usize = 65_536;
 
 // The position `by` bytes after `at`; behind every record where one of them is.
-pub fn onward(at: usize, by: usize) -> usize {
+pub(crate) fn onward(at: usize, by: usize) -> usize {
     if BEHIND <= at {
         return BEHIND;
     }
@@ -17,32 +14,35 @@ pub fn onward(at: usize, by: usize) -> usize {
     at + by
 }
 
-pub fn byte(record: &[u8], at: usize) -> u8 {
+pub(crate) fn byte(record: &[u8], at: usize) -> u8 {
     if at < record.len() {
         return record[at];
     }
     0
 }
 
-// The number that four bytes write, the lowest first.
-fn number(b0: u8, b1: u8, b2: u8, b3: u8) -> u32 {
-    b0 as u32 + 256 * (b1 as u32) + 65_536 * (b2 as u32) + 16_777_216 * (b3 as u32)
+fn bytes_joined(low: u8, high: u8) -> u16 {
+    low as u16 + 256 * (high as u16)
 }
 
-pub fn four(record: &[u8], at: usize) -> u32 {
-    let b0 = byte(record, at);
-    let b1 = byte(record, onward(at, 1));
-    let b2 = byte(record, onward(at, 2));
-    let b3 = byte(record, onward(at, 3));
-    number(b0, b1, b2, b3)
+pub(crate) fn two(record: &[u8], at: usize) -> u16 {
+    bytes_joined(byte(record, at), byte(record, onward(at, 1)))
 }
 
-fn joined(low: u32, high: u32) -> u64 {
+fn twos_joined(low: u16, high: u16) -> u32 {
+    low as u32 + 65_536 * (high as u32)
+}
+
+pub(crate) fn four(record: &[u8], at: usize) -> u32 {
+    twos_joined(two(record, at), two(record, onward(at, 2)))
+}
+
+fn fours_joined(low: u32, high: u32) -> u64 {
     low as u64 + 4_294_967_296 * (high as u64)
 }
 
-pub fn eight(record: &[u8], at: usize) -> u64 {
-    joined(four(record, at), four(record, onward(at, 4)))
+pub(crate) fn eight(record: &[u8], at: usize) -> u64 {
+    fours_joined(four(record, at), four(record, onward(at, 4)))
 }
 
 // The number of `width` bytes as one of 32 bits: the sign of the last byte goes on.
@@ -80,7 +80,7 @@ fn signed_64(x: u64) -> i64 {
 }
 
 // A cost of 1, 2 or 4 bytes.
-pub fn cost(record: &[u8], at: usize, width: usize) -> i32 {
+pub(crate) fn cost(record: &[u8], at: usize, width: usize) -> i32 {
     signed_32(extended(record, at, width))
 }
 
@@ -92,11 +92,8 @@ fn wide(x: u32) -> u64 {
     x as u64 | 0xffff_ffff_0000_0000
 }
 
-// A value of 1, 2, 4 or 8 bytes; what the buffer held before where none is stored.
-pub fn value(record: &[u8], at: usize, width: usize) -> i64 {
-    if width == 0 {
-        return JUNK;
-    }
+// A value of 1, 2, 4 or 8 bytes.
+pub(crate) fn value(record: &[u8], at: usize, width: usize) -> i64 {
     if width == 8 {
         return signed_64(eight(record, at));
     }

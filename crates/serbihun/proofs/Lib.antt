@@ -2,3 +2,4 @@ pub mod ByteLaws
 pub mod RoundTrip
 pub mod CaseFace
 pub mod Theorems
+pub mod Only

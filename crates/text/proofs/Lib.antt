@@ -1,3 +1,4 @@
 pub mod PutLaws
 pub mod NumberLaws
 pub mod Samples
+pub mod Only

@@ -1,28 +1,123 @@
-// The compiled solver, tried: document 01's samples and further ones, a counterpart of each of the crate's own tests, the refusals, and
-// the longest path. A line for each group; a trial that failed prints its name.
-mod compare;
-mod further;
-mod random10;
-mod refusals;
-mod samples;
-mod solve_tests;
-mod staircase;
-mod step_tests;
+// The compiled solver, tried. The file `trials` says on what, and what must come out; its head has the format. A line for each group; a trial
+// that failed prints its name, and so does one that is not written as it must be, which ends the run.
+mod call;
+mod list;
+mod numbers;
 mod tally;
-mod trial;
+mod words;
+
+use call::call;
+use libc::STDOUT_FILENO;
+use list::List;
+use tally::Tally;
+use words::BEHIND;
+use words::after_word;
+use words::line_end;
+use words::next_word;
+
+fn print_part(text: &[u8], start: usize, end: usize) {
+    if text.len() < end {
+        return;
+    }
+    if end < start {
+        return;
+    }
+    io::write_all(STDOUT_FILENO, &text[start..end]);
+}
+
+// The line from `from` on, behind what is to be said of it.
+fn print_line(what: &[u8], text: &[u8], from: usize) {
+    io::write_all(STDOUT_FILENO, what);
+    print_part(text, from, line_end(text, from));
+    io::write_all(STDOUT_FILENO, b"\n");
+}
+
+// A further call of a trial; both must be as the text says.
+fn further(text: &[u8], before: List, from: usize) -> List {
+    let mut list = call(text, from);
+    if !before.same {
+        list.same = false;
+    }
+    list
+}
+
+// All calls of a trial.
+fn calls(text: &[u8], from: usize) -> List {
+    let mut list = call(text, from);
+    let mut next = after_word(text, list.at, b"and");
+    let mut turns = BEHIND;
+    while turns > 0 && next != BEHIND {
+        list = further(text, list, next);
+        next = after_word(text, list.at, b"and");
+        turns -= 1;
+    }
+    list
+}
+
+fn try_one(text: &[u8], name: usize, tally: Tally) -> Tally {
+    let list = calls(text, line_end(text, name));
+    if list.at == BEHIND {
+        print_line(b"MISREAD", text, name);
+        return tally::stopped(tally);
+    }
+    if !list.same {
+        print_line(b"FAILED", text, name);
+    }
+    tally::counted(tally, list.at, list.same)
+}
+
+fn end_group(text: &[u8], from: usize, tally: Tally) -> Tally {
+    let end = line_end(text, from);
+    print_part(text, next_word(text, from), end);
+    tally::end_group(tally, end)
+}
+
+fn try_next(text: &[u8], tally: Tally) -> Tally {
+    let name = after_word(text, tally.at, b"trial");
+    if name != BEHIND {
+        return try_one(text, name, tally);
+    }
+    let group = after_word(text, tally.at, b"tally");
+    if group != BEHIND {
+        return end_group(text, group, tally);
+    }
+    let word = next_word(text, tally.at);
+    if word < text.len() {
+        print_line(b"MISREAD ", text, word);
+    }
+    tally::stopped(tally)
+}
+
+fn try_all(text: &[u8]) -> Tally {
+    let mut tally = Tally {
+        at: 0,
+        more: true,
+        passed: 0,
+        tried: 0,
+        group_passed: 0,
+        group_tried: 0,
+    };
+    let mut turns = BEHIND;
+    while turns > 0 && tally.more {
+        tally = try_next(text, tally);
+        turns -= 1;
+    }
+    tally
+}
 
 fn main() {
-    let mut tally = tally::nothing_tried();
-    tally = samples::samples(tally);
-    tally = tally::end_group(tally, b"samples");
-    tally = further::further(tally);
-    tally = tally::end_group(tally, b"further samples");
-    tally = step_tests::step_tests(tally);
-    tally = solve_tests::solve_tests(tally);
-    tally = tally::end_group(tally, b"crate tests");
-    tally = refusals::refusals(tally);
-    tally = tally::end_group(tally, b"refusals");
-    tally = staircase::staircase(tally);
-    tally = tally::end_group(tally, b"longest path");
-    tally::end(tally);
+    let path = b"trials";
+    let fd = os::open_read(path);
+    if fd < 0 {
+        os::fail(path);
+        return;
+    }
+    let mut text = io::large_buffer();
+    let length = io::read_full(fd, &mut text);
+    libc::close(fd);
+    if BEHIND <= length {
+        print_line(b"MISREAD: too long", b"", 0);
+        return;
+    }
+    tally::end(try_all(&text[..length]));
 }

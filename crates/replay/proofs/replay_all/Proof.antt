@@ -4,10 +4,16 @@ use Rattle.replay.proofs.replay_all.Statement.{statement}
 use Rattle.replay.proofs.replay_all.Tie as tie
 
 abbrev Inv-loop : tie.InvT-loop
-Inv-loop fd tally₀ turns₀ tally turns = Unit {0}
+Inv-loop fd answers numbers₀ tally₀ turns₀ numbers tally turns = Unit {0}
 
 abbrev μ-loop : tie.MeasureT-loop
-μ-loop fd tally₀ turns₀ tally turns = turns
+μ-loop fd answers numbers₀ tally₀ turns₀ numbers tally turns = turns
+
+slice-aggregate-read-full : tie.Need-slice-aggregate-read-full Inv-loop μ-loop
+slice-aggregate-read-full c = search needs
+
+read-full-requires : tie.Need-read-full-requires Inv-loop μ-loop
+read-full-requires c κs = search needs
 
 loop-holds : tie.Need-loop-holds Inv-loop μ-loop
 loop-holds c = search needs
@@ -36,6 +42,8 @@ replay-all-spec =
     (tie.spec
     Inv-loop
     μ-loop
+    slice-aggregate-read-full
+    read-full-requires
     loop-holds
     replay-next-requires
     sub-turns

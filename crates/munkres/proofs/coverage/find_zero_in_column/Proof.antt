@@ -43,18 +43,23 @@ met c =
     let l = c .before .before in
     walk-meets 64 (l .before .before .before .pre .0 .word .most) (c .before .loop-test .taken) (c .lowest-line .ensures) (l .loop .inv)
 
+-- the cell's place is in the square, and so is the mirrored one: no index tells a column from a row
 place : (c : tie.After-lowest-line Inv-loop μ-loop) → let a = c .before .before .before .before .before .args in
-    c .lowest-line .result * a .n + a .column < a .n * a .n
-place c = let s = c .before .before .before .before .before in place-lt (s .args .n) _ _ (met c .below) (s .pre .1)
+    let row = c .lowest-line .result in
+    (row * a .n + a .column < a .n * a .n) × (a .column * a .n + row < a .n * a .n)
+place c =
+    let s = c .before .before .before .before .before in
+    let h = met c .below in
+    (place-lt (s .args .n) _ _ h (s .pre .1), place-lt (s .args .n) _ _ (s .pre .1) h)
 
 mul-is-element-zero : tie.Need-mul-is-element-zero Inv-loop μ-loop
-mul-is-element-zero c = omega (arith, place c)
+mul-is-element-zero c = let p = place c in omega arith
 
 add-is-element-zero : tie.Need-add-is-element-zero Inv-loop μ-loop
-add-is-element-zero c = omega (arith, place c)
+add-is-element-zero c = let p = place c in omega arith
 
 is-element-zero-requires : tie.Need-is-element-zero-requires Inv-loop μ-loop
-is-element-zero-requires c κs = omega (arith, place c)
+is-element-zero-requires c κs = let p = place c in omega arith
 
 returns : tie.Need-returns Inv-loop μ-loop
 unfolding zero-at allows
