@@ -4,12 +4,11 @@ use mathlib.Core.List.{List}
 use Prim.Native.Nat.{ℕ}
 use lib.IntN.{ℤ}
 use Rattle.steps.specs.declared.Answer.{Answer}
-use Rattle.steps.specs.Lent.{Buffers}
+use Rattle.steps.specs.Lent.{Buffers, task}
 use Rattle.steps.specs.Promise.{Promise}
 use Rattle.steps.proofs.Theorems.{only-answer}
-use Rattle.munkres.specs.View.{task}
 use Rattle.storm_case.specs.declared.Case.{Case}
-use Rattle.storm_case.specs.Records.{found}
+use Rattle.records.specs.Records.{found}
 use Rattle.storm_case.specs.Case.{read, hut}
 use Rattle.storm_case.proofs.Only.{only-read}
 use Rattle.serbihun.specs.declared.case.Record.{Record}
