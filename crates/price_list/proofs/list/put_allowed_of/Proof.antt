@@ -11,17 +11,21 @@ use Rattle.price_list.proofs.PlaceLaws.{cell-place}
 use Rattle.price_list.proofs.list.put_allowed_of.Statement.{statement}
 use Rattle.price_list.proofs.list.put_allowed_of.Tie as tie
 
+-- from the prices to the cell, whose start is one step back
+abbrev cell-of : tie.After-put-allowed-arg3 → tie.After-slice-known
+cell-of prices = prices .before .before .before .before
+
 mul-place : tie.Need-mul-place
-mul-place c = let s = c .before in omega (arith, cell-place (s .pre))
+mul-place c = omega (arith, cell-place (c .before .pre))
 
 add-place : tie.Need-add-place
-add-place c = let s = c .before in omega (arith, cell-place (s .pre))
+add-place c = omega (arith, cell-place (c .before .pre))
 
 mul-difference : tie.Need-mul-difference
-mul-difference c = let s = c .before in omega (arith, cell-place (s .pre))
+mul-difference c = omega (arith, cell-place (c .before .pre))
 
 element-copy-out-difference : tie.Need-element-copy-out-difference
-element-copy-out-difference c = let s = c .before in omega (arith, cell-place (s .pre))
+element-copy-out-difference c = omega (arith, cell-place (c .before .pre))
 
 cast-difference : tie.Need-cast-difference
 cast-difference c = search (wide-fits, needs)
@@ -39,10 +43,10 @@ element-copy-out-put-allowed-2 : tie.Need-element-copy-out-put-allowed-2
 element-copy-out-put-allowed-2 c = search needs
 
 mul-put-allowed-3 : tie.Need-mul-put-allowed-3
-mul-put-allowed-3 c = let s = c .before .before .before .before .before in omega (arith, cell-place (s .pre))
+mul-put-allowed-3 c = omega (arith, cell-place (cell-of c .before .pre))
 
 element-copy-out-put-allowed-3 : tie.Need-element-copy-out-put-allowed-3
-element-copy-out-put-allowed-3 c = let s = c .before .before .before .before .before in omega (arith, cell-place (s .pre))
+element-copy-out-put-allowed-3 c = omega (arith, cell-place (cell-of c .before .pre))
 
 put-allowed-requires : tie.Need-put-allowed-requires
 put-allowed-requires c κs = search needs
@@ -53,14 +57,18 @@ same-length c = search needs
 returns : tie.Need-returns
 unfolding allowed-of
 returns c =
-    let cell = c .before .before .before .before .before .before .before in
-    let a = cell .before .before .args in
+    let put = c .before .before in
+    let spare-read = put .before in
+    let event-price-read = spare-read .before in
+    let row-price-read = event-price-read .before in
+    let cell = row-price-read .before .before in
+    let a = cell-of event-price-read .before .args in
     let place = a .row * a .n + a .event in
     let cost = wide-back (getD (a .costs .now) place (pos 0)) (cell .difference .given) in
-    let row-price = back w64 (getD (a .row-prices .now) (a .row) (pos 0)) (c .before .before .before .before .before .put-allowed-arg2 .given) in
-    let event-price = back w64 (getD (a .column-prices .now) (a .event) (pos 0)) (c .before .before .before .before .put-allowed-arg3 .given) in
-    let spare = back w64 (getD (a .working .now) place (pos 0)) (c .before .before .before .put-allowed-arg4 .given) in
-    rw (cost, row-price, event-price, spare) at (c .before .before .put-allowed .ensures)
+    let row-price = back w64 (getD (a .row-prices .now) (a .row) (pos 0)) (row-price-read .put-allowed-arg2 .given) in
+    let event-price = back w64 (getD (a .column-prices .now) (a .event) (pos 0)) (event-price-read .put-allowed-arg3 .given) in
+    let spare = back w64 (getD (a .working .now) place (pos 0)) (spare-read .put-allowed-arg4 .given) in
+    rw (cost, row-price, event-price, spare) at (put .put-allowed .ensures)
 
 pub put-allowed-of-spec : {M : Type 1} → statement M
 put-allowed-of-spec =

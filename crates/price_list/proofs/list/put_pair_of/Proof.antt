@@ -11,6 +11,13 @@ use Rattle.price_list.proofs.PlaceLaws.{pair-place}
 use Rattle.price_list.proofs.list.put_pair_of.Statement.{statement}
 use Rattle.price_list.proofs.list.put_pair_of.Tie as tie
 
+-- from the event to the start, and from the prices to the event
+abbrev begun : tie.After-event → tie.Start
+begun event = event .before .before .before
+
+abbrev event-of : tie.After-put-pair-arg2 → tie.After-event
+event-of prices = prices .before .before .before .before
+
 mul-event : tie.Need-mul-event
 mul-event c = search needs
 
@@ -18,19 +25,19 @@ element-copy-out-event : tie.Need-element-copy-out-event
 element-copy-out-event c = search needs
 
 cast-event : tie.Need-cast-event
-cast-event c = let s = c .before .before .before in omega (arith, pair-place (s .pre .0) (s .args .row) (s .pre .1))
+cast-event c = let pre = begun c .pre in omega (arith, pair-place (pre .0) _ (pre .1))
 
 mul-place : tie.Need-mul-place
-mul-place c = let s = c .before .before .before in omega (arith, pair-place (s .pre .0) (s .args .row) (s .pre .1))
+mul-place c = let pre = begun c .pre in omega (arith, pair-place (pre .0) _ (pre .1))
 
 add-place : tie.Need-add-place
-add-place c = let s = c .before .before .before in omega (arith, pair-place (s .pre .0) (s .args .row) (s .pre .1))
+add-place c = let pre = begun c .pre in omega (arith, pair-place (pre .0) _ (pre .1))
 
 mul-difference : tie.Need-mul-difference
-mul-difference c = let s = c .before .before .before in omega (arith, pair-place (s .pre .0) (s .args .row) (s .pre .1))
+mul-difference c = let pre = begun c .pre in omega (arith, pair-place (pre .0) _ (pre .1))
 
 element-copy-out-difference : tie.Need-element-copy-out-difference
-element-copy-out-difference c = let s = c .before .before .before in omega (arith, pair-place (s .pre .0) (s .args .row) (s .pre .1))
+element-copy-out-difference c = let pre = begun c .pre in omega (arith, pair-place (pre .0) _ (pre .1))
 
 cast-difference : tie.Need-cast-difference
 cast-difference c = search (wide-fits, needs)
@@ -45,14 +52,10 @@ element-copy-out-put-pair : tie.Need-element-copy-out-put-pair
 element-copy-out-put-pair c = search needs
 
 mul-put-pair-2 : tie.Need-mul-put-pair-2
-mul-put-pair-2 c =
-    let s = c .before .before .before .before .before .before .before in
-    omega (arith, pair-place (s .pre .0) (s .args .row) (s .pre .1))
+mul-put-pair-2 c = let pre = begun (event-of c) .pre in omega (arith, pair-place (pre .0) _ (pre .1))
 
 element-copy-out-put-pair-2 : tie.Need-element-copy-out-put-pair-2
-element-copy-out-put-pair-2 c =
-    let s = c .before .before .before .before .before .before .before in
-    omega (arith, pair-place (s .pre .0) (s .args .row) (s .pre .1))
+element-copy-out-put-pair-2 c = let pre = begun (event-of c) .pre in omega (arith, pair-place (pre .0) _ (pre .1))
 
 put-pair-requires : tie.Need-put-pair-requires
 put-pair-requires c κs = search needs
@@ -63,13 +66,16 @@ same-length c = search needs
 returns : tie.Need-returns
 unfolding pair-of
 returns c =
-    let hut = c .before .before .before .before .before .before in
-    let a = hut .before .before .before .before .before .args in
+    let put = c .before .before in
+    let event-price-read = put .before in
+    let row-price-read = event-price-read .before in
+    let hut = row-price-read .before .before in
+    let a = begun (event-of row-price-read) .args in
     let event = getD (a .columns .now) (a .row) 0 in
     let cost = wide-back (getD (a .costs .now) (a .row * a .n + event) (pos 0)) (hut .before .difference .given) in
-    let row-price = back w64 (getD (a .row-prices .now) (a .row) (pos 0)) (c .before .before .before .before .put-pair-arg2 .given) in
-    let event-price = back w64 (getD (a .column-prices .now) event (pos 0)) (c .before .before .before .put-pair-arg3 .given) in
-    rw (hut .hut-of .ensures, cost, row-price, event-price) at (c .before .before .put-pair .ensures)
+    let row-price = back w64 (getD (a .row-prices .now) (a .row) (pos 0)) (row-price-read .put-pair-arg2 .given) in
+    let event-price = back w64 (getD (a .column-prices .now) event (pos 0)) (event-price-read .put-pair-arg3 .given) in
+    rw (hut .hut-of .ensures, cost, row-price, event-price) at (put .put-pair .ensures)
 
 pub put-pair-of-spec : {M : Type 1} → statement M
 put-pair-of-spec =
