@@ -7,7 +7,6 @@ use Rattle.steps.specs.declared.Answer.{Answer}
 use Rattle.steps.specs.Lent.{task, Buffers}
 use Rattle.steps.specs.Promise.{Promise}
 use Rattle.steps.proofs.Theorems.{only-answer}
-
 use Rattle.storm_case.specs.declared.Case.{Case}
 use Rattle.records.specs.Records.{found}
 use Rattle.storm_case.specs.Case.{read, hut}

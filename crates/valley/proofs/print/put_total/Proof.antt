@@ -27,10 +27,12 @@ same-length c = search needs
 returns : tie.Need-returns
 unfolding total-line
 returns c =
-    let number = c .before .before .before .before .before .before .before in
-    let word : Holds _ _ _ _ _ = record { held = number .before .before .before .before .put .ensures } in
-    let same = toZ-ofZ (number .before .before .before .before .before .before .before .before .fits .total) in
-    rw same at (holds-more (holds-more word _ (number .put-signed .ensures)) _ (c .before .before .put2 .ensures) .held)
+    let end = c .before .before in
+    let number = end .before .before .before .before .before in
+    let word = number .before .before .before .before in
+    let begun = word .before .before .before .before in
+    let held : Holds _ _ _ _ _ = record { held = word .put .ensures } in
+    rw (toZ-ofZ (begun .fits .total)) at (holds-more (holds-more held _ (number .put-signed .ensures)) _ (end .put2 .ensures) .held)
 
 pub put-total-spec : {M : Type 1} → statement M
 put-total-spec =
