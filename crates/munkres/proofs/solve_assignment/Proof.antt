@@ -4,7 +4,7 @@ use native.Mathlib.Omega.{arith}
 use borrow.Author.Needs.{needs}
 use Rattle.steps.specs.Refusal.{verdict}
 use Rattle.steps.proofs.Promised.{promised}
-use Rattle.munkres.proofs.CallLaws.{verdict-is, refused-promise, dead-place, dead-promise}
+use Rattle.ground.proofs.CallLaws.{verdict-is, refused-promise, dead-place, dead-promise}
 use Rattle.munkres.proofs.solve_assignment.Statement.{statement}
 use Rattle.munkres.proofs.solve_assignment.Tie as tie
 

@@ -8,10 +8,11 @@ use mir.Syntax.{w64}
 use mir.Val.{toZ, ofZ}
 use Rattle.steps.specs.Lent.{allows}
 use Rattle.steps.specs.Steps.{lowest}
-use Rattle.munkres.specs.View.{view}
-use Rattle.munkres.specs.Good.{Adjusts}
-use Rattle.munkres.proofs.Values.{value-found, value-none}
-use Rattle.munkres.proofs.StepLaws.{back, step6-none, step6-spent, step6-adjusts, lowered-shifted, raised-shifted}
+use Rattle.ground.specs.View.{view}
+use Rattle.ground.specs.Good.{Adjusts}
+use Rattle.ground.proofs.Values.{value-found, value-none}
+use Rattle.ground.proofs.Wide.{back}
+use Rattle.ground.proofs.Adjusting.{step6-none, step6-spent, step6-adjusts, lowered-shifted, raised-shifted}
 use borrow.Author.Needs.{needs}
 use Rattle.munkres.proofs.step.step_6.Statement.{statement}
 use Rattle.munkres.proofs.step.step_6.Tie as tie
@@ -114,11 +115,12 @@ sub-shift-prices c = let e = left (c .before .before) in rw (turned e) (adjusts 
 shift-prices-requires : tie.Need-shift-prices-requires
 shift-prices-requires c κs =
     let e = left (followed c .before) in
-    let pre = start (value e) .pre in (
-      omega (arith, pre .row-lines, pre .grid .word .most),
-      rw (turned-back e) (adjusts e .back),
-      rw (turned-back e, lowered-shifted) (adjusts e .lower),
-    )
+    let pre = start (value e) .pre in
+    record {
+      most = omega (arith, pre .row-lines, pre .grid .word .most);
+      fits = rw (turned-back e) (adjusts e .back);
+      values = rw (turned-back e, lowered-shifted) (adjusts e .lower);
+    }
 
 uncovered-lines-requires : tie.Need-uncovered-lines-requires
 uncovered-lines-requires c κs = search needs
@@ -126,11 +128,12 @@ uncovered-lines-requires c κs = search needs
 shift-prices-requires-2 : tie.Need-shift-prices-requires-2
 shift-prices-requires-2 c κs =
     let e = left (followed (lowered c .before) .before) in
-    let pre = start (value e) .pre in (
-      omega (arith, pre .column-lines, pre .grid .word .most),
-      rw (change e) (adjusts e .change),
-      rw (change e, raised-shifted _ _ _ _ _ (c .before .uncovered-lines .ensures) (pre .column-lines)) (adjusts e .higher),
-    )
+    let pre = start (value e) .pre in
+    record {
+      most = omega (arith, pre .column-lines, pre .grid .word .most);
+      fits = rw (change e) (adjusts e .change);
+      values = rw (change e, raised-shifted _ _ _ _ _ (c .before .uncovered-lines .ensures) (pre .column-lines)) (adjusts e .higher);
+    }
 
 adjusting-requires : tie.Need-adjusting-requires
 adjusting-requires c κs = search needs
