@@ -1,10 +1,12 @@
 -- What the functions around the run need: what an end gives back, and the call from its verdict to its end.
 use mathlib.Core.Path.{_≡_, refl, sym, ap, _∙_}
-use mathlib.Core.Logic.{_≢_, dite}
+use mathlib.Core.Logic.{_≢_, dite, inl, inr}
 use mathlib.Core.Bool.{Bool, true, true≢false}
-use mathlib.Core.List.{List}
+use mathlib.Core.List.{List, [], _∷_}
 use mathlib.Core.Option.{Option, some, Option·map, map-eq-some-iff}
-use Prim.Native.Nat.{ℕ, _*_, _≤_, _<_}
+use Prim.Native.Nat.{ℕ, _*_, _<_}
+use types.Run.{OneOf}
+use denote.Enum.Declared.{tagOf}
 use native.Mathlib.Decide.{decLt}
 use native.Mathlib.Omega.{arith}
 use lib.Dec.{T}
@@ -34,14 +36,15 @@ use Rattle.steps.proofs.Masks.{mask-flag}
 use Rattle.steps.proofs.Promised.{promised}
 use Rattle.rules.proofs.Rooms.{Room, room-of}
 use Rattle.rules.specs.declared.Verdict.{Verdict}
-use Rattle.rules.specs.declared.Verdict.the-variants.{Dead}
+use Rattle.rules.specs.declared.Verdict.the-variants.{Refused, Dead, Accepted}
+use Rattle.rules.proofs.Verdict.{the-type}
 use Rattle.rules.specs.View.{view-verdict}
 use Rattle.ground.specs.declared.run.Next.{Next}
 use Rattle.ground.specs.declared.run.Next.the-variants.{Step3, Step4, Step5, Step6, Paired, NoPairing, Unfinished}
 use Rattle.ground.specs.View.{view-next}
 use Rattle.ground.specs.Square.{InWord, Flags}
 use Rattle.ground.specs.Good.{ForStart, Frame, Kept, Good, Came}
-use Rattle.ground.specs.Ends.{Finishes}
+use Rattle.ground.specs.Ends.{Inside, Stopped, Finishes}
 use Rattle.ground.proofs.GoodLaws.{sound-at}
 
 -- ---- what an end gives back
@@ -170,28 +173,43 @@ module _ (n : ℕ) (costs : List ℤ) (mask : List ℕ) (budget : ℕ) (b : Buff
         exact = ap (judged t b (c .count)) v ∙ ap (λ (m : Machine). Option·map (returned t b m) (end-of (m .run .next))) (sym there) ∙ given-back;
       }
 
+-- ---- the judgement stops the call
+
+pub stopped-refused : {n : ℕ} {x : Verdict} {number place : ℕ} {a : Answer} → x ≡ Refused number place → a ≡ answer number place (pos 0) no-run 0 0 → Stopped n (view-verdict x) a
+unfolding judged
+stopped-refused e q s t b _ = rw (e, q)
+
+pub stopped-dead : {n : ℕ} {x : Verdict} {row rows columns : ℕ} {a : Answer} → x ≡ Dead row → rows ≡ with 0 row → columns ≡ all n → a ≡ answer 6 0 (pos 0) no-run rows columns
+    → Stopped n (view-verdict x) a
+unfolding judged
+stopped-dead e er ec q s t b en = rw (e, q, er, ec, en)
+
+-- an accepted call is not stopped
+pub stopped-never : {n : ℕ} {x : Verdict} {a : Answer} → x ≡ Accepted → Stopped n (view-verdict x) a
+stopped-never e s = absurd (s (ap view-verdict e))
+
+stops : (x : Verdict) → OneOf (0 ∷ 1 ∷ []) (tagOf the-type x) → view-verdict x ≢ R.accepted
+stops (Refused number place) o e = absurd (let z : _≡_ {A = ℕ} 0 1 = cc in omega arith)
+stops (Dead row) o e = absurd (let z : _≡_ {A = ℕ} 0 1 = cc in omega arith)
+stops Accepted (inl e) _ = absurd (omega arith)
+stops Accepted (inr e) _ = absurd (omega arith)
+
 -- ---- the verdict of a call
 
 -- a row that was found lies in the square
-pub dead-place : (n : ℕ) (costs : List ℤ) (mask : List ℕ) (others : Bool) {x : Verdict} {row : ℕ}
-    → view-verdict x ≡ R.judgement 64 n costs mask others → x ≡ Dead row → (row < n) × (n ≤ 64)
-dead-place n costs mask others e f = let d = rw (sym e ∙ ap view-verdict f) at (judgement-tells 64 n costs mask others) in (d .1, d .0 .most)
+pub dead-inside : (n : ℕ) (costs : List ℤ) (mask : List ℕ) (others : Bool) (x : Verdict) → view-verdict x ≡ R.judgement 64 n costs mask others → Inside n (view-verdict x)
+dead-inside n costs mask others x e row f = let d = rw (sym e ∙ f) at (judgement-tells 64 n costs mask others) in (d .1, d .0 .most)
 
-module _ (n : ℕ) (costs : List ℤ) (mask : List ℕ) (budget : ℕ) (b : Buffers) where
-  abbrev call : Task
-  call = task n costs mask budget
-
+module _ (n : ℕ) (costs : List ℤ) (mask : List ℕ) (budget : ℕ) (b : Buffers) (x : Verdict) (e : view-verdict x ≡ R.judgement 64 n costs mask (R.room (n * n) n b)) where
   -- what the judgement found is the verdict of the call
-  pub verdict-is : {x y : Verdict}
-      → view-verdict x ≡ R.judgement 64 n costs mask (R.room (n * n) n b) → x ≡ y → R.verdict call 64 b ≡ view-verdict y
+  verdict-is : R.verdict (task n costs mask budget) 64 b ≡ view-verdict x
   unfolding R.verdict
-  verdict-is e f = sym e ∙ ap view-verdict f
+  verdict-is = sym e
 
-  pub refused-promise : {number place : ℕ} {a : Answer} → R.verdict call 64 b ≡ R.refused number place → a ≡ answer number place (pos 0) no-run 0 0 → Promise 64 call b a b
-  unfolding judged
-  refused-promise e q = promised (record { count = 0; exact = ap (judged call b 0) e ∙ (rw q) })
+  pub accepted-verdict : x ≡ Accepted → R.verdict (task n costs mask budget) 64 b ≡ R.accepted
+  accepted-verdict f = verdict-is ∙ ap view-verdict f
 
-  pub dead-promise : {row rows columns : ℕ} {a : Answer} → R.verdict call 64 b ≡ R.dead row → rows ≡ with 0 row → columns ≡ all n → a ≡ answer 6 0 (pos 0) no-run rows columns
-      → Promise 64 call b a b
-  unfolding judged
-  dead-promise e er ec q = promised (record { count = 0; exact = ap (judged call b 0) e ∙ (rw (q, er, ec)) })
+  -- by the tag, which is that of a refusal or of a dead row
+  pub stopped-promise : {a : Answer} → OneOf (0 ∷ 1 ∷ []) (tagOf the-type x) → Stopped n (view-verdict x) a → Promise 64 (task n costs mask budget) b a b
+  stopped-promise o s =
+      promised (record { count = 0; exact = ap (judged (task n costs mask budget) b 0) verdict-is ∙ s (stops x o) (task n costs mask budget) b refl })

@@ -1,9 +1,11 @@
 -- Signed numbers in the code: a local holds bits, and its value is read back from them; a cost of 32 bits is widened to 64; what will stand in a list fits.
-use mathlib.Core.Path.{_≡_}
+use mathlib.Core.Path.{_≡_, refl}
 use mathlib.Core.List.{List}
-use Prim.Native.Nat.{ℕ, _+_, _*_, _/_, _%_, _<_, _^_}
+use Prim.Native.Nat.{ℕ, suc, _+_, _-_, _*_, _/_, _%_, _<_, _^_}
 use native.Mathlib.Omega.{arith}
-use lib.IntN.{ℤ, pos, _-ℤ_}
+use borrow.Author.Tests.{ne-eqb}
+use lib.Dec.{eqb}
+use lib.IntN.{ℤ, pos, negsuc, _-ℤ_}
 use lib.ListN.{length, getD}
 use lib.Signed.{mag}
 use mir.Syntax.{w32, w64}
@@ -13,6 +15,7 @@ use Rattle.lines.specs.Square.{each}
 use Rattle.lines.specs.Bounds.{Within}
 use Rattle.lines.proofs.Signed.{signed, neg-parts, minus-parts, size, within-fits}
 use Rattle.lines.proofs.Squares.{place-lt, place-of, length-each, each-at}
+use Rattle.steps.specs.Steps.{is-zero}
 use Rattle.ground.specs.Square.{Fit64}
 
 pub back64 : (z : ℤ) → mag z < 2 ^ 63 → toZ w64 (ofZ w64 z) ≡ z
@@ -20,6 +23,12 @@ back64 z h = toZ-ofZ (record { sfits = h })
 
 pub back : (z y : ℤ) → z ≡ y → SFits w64 y → toZ w64 (ofZ w64 z) ≡ y
 back z y e h = rw e (toZ-ofZ h)
+
+-- a signed number is compared with 0 by its bits
+pub zero-bits : (z : ℤ) → SFits w64 z → eqb (ofZ w64 z) 0 ≡ is-zero z
+unfolding is-zero
+zero-bits (pos n) f = refl
+zero-bits (negsuc n) f = let h = f .sfits in ne-eqb (2 ^ 64 - suc n) 0 (λ e. omega arith)
 
 -- an `i32` as an `i64`: what the cast asks, and what comes of it
 pub wide-fits : (z : ℤ) → mag z < 2 ^ 31 → SFits w64 (toZ w32 (ofZ w32 z))

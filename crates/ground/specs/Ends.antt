@@ -1,15 +1,28 @@
 -- What is asked where the answer is given.
 use mathlib.Core.Path.{_≡_}
+use mathlib.Core.Logic.{_≢_}
 use mathlib.Core.Bool.{true}
 use mathlib.Core.List.{List}
+use mathlib.Core.Option.{some}
 use Prim.Native.Nat.{ℕ, _≤_, _<_}
 use lib.IntN.{ℤ}
 use lib.ListN.{length}
 use Rattle.lines.specs.Bounds.{Within}
-use Rattle.steps.specs.Lent.{most-cost, cost-at}
+use Rattle.steps.specs.declared.Answer.{Answer}
+use Rattle.steps.specs.Lent.{Task, Buffers, most-cost, cost-at}
+use Rattle.steps.specs.Refusal.{Verdict, dead, accepted}
+use Rattle.steps.specs.Outcome.{judged}
 use Rattle.steps.specs.Steps.{Next, Paired, star-in-row}
 use Rattle.steps.specs.Counts.{over}
 use Rattle.ground.specs.Square.{Square, InWord}
+
+-- a row that the judgement found lies in the square
+abbrev pub Inside : ℕ → Verdict → Type 0
+Inside n v = (row : ℕ) → v ≡ dead row → (row < n) × (n ≤ 64)
+
+-- this is given back where the judgement stops the call
+abbrev pub Stopped : ℕ → Verdict → Answer → Type 0
+Stopped n v a = v ≢ accepted → (t : Task) (b : Buffers) → t .n ≡ n → judged t b 0 v ≡ some (a, b)
 
 -- every row has a star, whose cost is in range
 abbrev pub StarsInRange : ℕ → List ℤ → List ℕ → Type 0

@@ -8,12 +8,14 @@ ghost use Rattle.assignment.specs.Problem.{total};
 ghost use Rattle.steps.specs.Lent.{cost-at};
 ghost use Rattle.steps.specs.Steps.{end-of, star-in-row};
 ghost use Rattle.steps.specs.Outcome.{no-run, given, answer as Outcome·answer};
+ghost use Rattle.rules.specs.View.{view-verdict};
 ghost use Rattle.ground.specs.View.{view, view-next};
-ghost use Rattle.ground.specs.Ends.{Chooses, Finishes};
+ghost use Rattle.ground.specs.Ends.{Inside, Stopped, Chooses, Finishes};
 use crate::marks;
 use crate::run::Next;
 use crate::run::Run;
 use crate::sets;
+use rules::Verdict;
 use steps::Answer;
 
 // The column of each row's star is chosen. Returns the total.
@@ -47,7 +49,7 @@ pub fn answer(number: u32, total: i64, run: Run, rows: u64, columns: u64) -> Ans
     }
 }
 
-pub fn refused(number: u32, place: usize, rows: u64, columns: u64) -> Answer
+fn refused(number: u32, place: usize, rows: u64, columns: u64) -> Answer
     ensures { λ r. ⌜ r ≡ Outcome·answer number place (pos 0) no-run rows columns ⌝ }
 {
     Answer {
@@ -59,6 +61,18 @@ pub fn refused(number: u32, place: usize, rows: u64, columns: u64) -> Answer
         augmentations: 0,
         block_rows: rows,
         block_columns: columns,
+    }
+}
+
+// What is given back where the judgement stops the call; of an accepted call, which it does not stop, nothing is said.
+pub fn stopped(n: usize, verdict: Verdict) -> Answer
+    requires { ⌜ Inside n (view-verdict verdict) ⌝ }
+    ensures { λ r. ⌜ Stopped n (view-verdict verdict) r ⌝ }
+{
+    match verdict {
+        Verdict::Refused(number, place) => refused(number, place, 0, 0),
+        Verdict::Dead(row) => refused(6, 0, sets::cover(0, row), sets::all_lines(n)),
+        Verdict::Accepted => refused(0, 0, 0, 0),
     }
 }
 

@@ -5,7 +5,6 @@ ghost use Rattle.steps.specs.Refusal.{accepted, verdict};
 ghost use Rattle.steps.specs.Outcome.{Outcome};
 ghost use Rattle.steps.specs.Promise.{Promise};
 use ground::answer;
-use ground::sets;
 use rules::Verdict;
 use steps::Answer;
 
@@ -74,8 +73,6 @@ pub fn solve_assignment(
         column_prices.len(),
     );
     match verdict {
-        Verdict::Refused(number, place) => answer::refused(number, place, 0, 0),
-        Verdict::Dead(row) => answer::refused(6, 0, sets::cover(0, row), sets::all_lines(n)),
         Verdict::Accepted => solve(
             n,
             costs,
@@ -87,5 +84,6 @@ pub fn solve_assignment(
             row_prices,
             column_prices,
         ),
+        _ => answer::stopped(n, verdict),
     }
 }
