@@ -8,8 +8,8 @@ ghost use Rattle.lines.specs.First.{any};
 ghost use Rattle.lines.specs.Square.{table};
 ghost use Rattle.lines.specs.Bounds.{Within};
 ghost use Rattle.steps.specs.Lent.{allows, cost-at};
-ghost use Rattle.steps.specs.Steps.{row-price};
-ghost use Rattle.ground.specs.Prices.{InRow, Shifts, shifted};
+ghost use Rattle.steps.specs.Steps.{row-price, lowered, raised};
+ghost use Rattle.ground.specs.Prices.{InRow, Shifts, AdjustsPrices, shifted};
 ghost use Rattle.ground.specs.Least.{lesser-of, least-from};
 use crate::sets;
 
@@ -71,7 +71,7 @@ pub fn clear_prices(prices: &mut [i64])
 }
 
 // The prices of a set of lines change.
-pub fn shift_prices(lines: u64, change: i64, prices: &mut [i64])
+fn shift_prices(lines: u64, change: i64, prices: &mut [i64])
     requires { ⌜ Shifts lines change (now prices) ⌝ }
     ensures { λ _. ⌜ now (prices .exit) ≡ shifted change lines (now (prices .entry)) ⌝ }
 {
@@ -82,4 +82,20 @@ pub fn shift_prices(lines: u64, change: i64, prices: &mut [i64])
         }
         line += 1;
     }
+}
+
+// An adjustment: covered rows become cheaper and uncovered columns dearer.
+pub fn adjust_prices(
+    n: usize,
+    rows: u64,
+    columns: u64,
+    change: i64,
+    row_prices: &mut [i64],
+    column_prices: &mut [i64],
+)
+    requires { ⌜ AdjustsPrices n rows columns change (now «row_prices») (now «column_prices») ⌝ }
+    ensures { λ _. ⌜ (now («row_prices» .exit) ≡ lowered change rows (now («row_prices» .entry))) × (now («column_prices» .exit) ≡ raised change columns (now («column_prices» .entry))) ⌝ }
+{
+    shift_prices(rows, -change, row_prices);
+    shift_prices(sets::uncovered_lines(n, columns), change, column_prices);
 }

@@ -155,8 +155,7 @@ fn step_6(
                 return run::to(run, Next::Unfinished);
             }
             weight_matrix::follow_prices(n, mask, rows, columns, change, working);
-            prices::shift_prices(rows, -change, row_prices);
-            prices::shift_prices(sets::uncovered_lines(n, columns), change, column_prices);
+            prices::adjust_prices(n, rows, columns, change, row_prices, column_prices);
             run::adjusting(run)
         }
     }
