@@ -1,11 +1,7 @@
 pub mod Flags
 pub mod Zeros
-pub mod Values
-pub mod Wide
+pub mod Rows
 pub mod Walk
 pub mod StepLaws
-pub mod GoodLaws
-pub mod Arms
-pub mod CallLaws
+pub mod AskLaws
 pub mod StarLaws
-pub mod Sums

@@ -24,7 +24,7 @@ use Rattle.lines.proofs.Squares.{cell-set, length-square, square-all}
 use Rattle.lines.proofs.Loops.{any-more, count-yes, count-no}
 use Rattle.steps.specs.Steps.{Run, Step4, Paired, run-with, machine, star-in-row, star-in-column, star-columns, star-count, excess, row-price, zero-at, free-zero, star-row, step2, start, step3}
 use Rattle.steps.specs.Outcome.{no-run}
-use Rattle.munkres.specs.Good.{OneStarARow}
+use Rattle.munkres.specs.ForSteps.{OneStarARow}
 
 -- ---- step 2
 

@@ -15,7 +15,7 @@ use Rattle.lines.proofs.Firsts.{first-is}
 use Rattle.steps.specs.Steps.{star-in-column, prime-in-row, path, flip}
 use Rattle.steps.specs.Going.{Ends}
 use Rattle.steps.proofs.Path.{path-last, path-more, Inside, path-inside}
-use Rattle.munkres.specs.Square.{Square}
+use Rattle.ground.specs.Square.{Square}
 use Rattle.munkres.specs.Path.{zipped, Walks, Recorded, Flips}
 
 -- ---- recording

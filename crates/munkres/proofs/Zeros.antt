@@ -1,13 +1,13 @@
 -- What the code sees of zeros, as the definitions have it: of one cell, of a column, and the first uncovered one.
-use mathlib.Core.Path.{_≡_, refl, sym, _∙_}
+use mathlib.Core.Path.{_≡_, sym, _∙_}
 use mathlib.Core.Bool.{Bool, true, false, not, _&&_, and-true, and-false}
 use mathlib.Core.List.{List}
-use Prim.Native.Nat.{ℕ, suc, _+_, _-_, _%_, _^_, _≤_, _<_}
+use Prim.Native.Nat.{ℕ, _+_, _%_, _≤_, _<_}
 use native.Mathlib.Omega.{arith}
 use borrow.Author.Tests.{eqb-true, eqb-false, ne-eqb, lt-ltb, le-ltb}
 use lib.Bits.{bitOr, or-zero-r, or-add-and, and-le-l}
 use lib.Dec.{eqb, ltb}
-use lib.IntN.{ℤ, pos, negsuc}
+use lib.IntN.{ℤ}
 use mir.Syntax.{w64}
 use mir.Val.{SFits, ofZ}
 use Rattle.lines.specs.First.{first}
@@ -16,14 +16,9 @@ use Rattle.lines.proofs.Tests.{by-cases}
 use Rattle.lines.proofs.Firsts.{first-ext, first-none}
 use Rattle.lines.proofs.Loops.{Missed, missed-hit, missed-all}
 use Rattle.steps.specs.Steps.{is-zero, zero-at, uncovered, zero-in-column, zero-column}
+use Rattle.ground.proofs.Wide.{zero-bits}
 use Rattle.munkres.specs.declared.coverage.Cell.the-variants.{At, Nothing}
 use Rattle.munkres.specs.Cell.{found-zero}
-
--- a signed number is compared with 0 by its bits
-pub zero-bits : (z : ℤ) → SFits w64 z → eqb (ofZ w64 z) 0 ≡ is-zero z
-unfolding is-zero
-zero-bits (pos n) f = refl
-zero-bits (negsuc n) f = let h = f .sfits in ne-eqb (2 ^ 64 - suc n) 0 (λ e. omega arith)
 
 -- a cell's value and what its mask byte adds, joined: 0 for a zero of an allowed cell alone
 pub zero-test : (z : ℤ) (byte : ℕ) → SFits w64 z → byte < 256 → eqb (bitOr (ofZ w64 z) ((byte + 255) % 256)) 0 ≡ (eqb byte 1 && is-zero z)

@@ -1,7 +1,4 @@
-pub mod Square
-pub mod View
-pub mod Least
 pub mod Cell
 pub mod Path
 pub mod Prices
-pub mod Good
+pub mod ForSteps

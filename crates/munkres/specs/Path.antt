@@ -5,7 +5,7 @@ use Prim.Native.Nat.{ℕ, zero, suc, _*_, _≤_, _<_}
 use lib.ListN.{length, getD}
 use Rattle.steps.specs.Steps.{path}
 use Rattle.steps.specs.Going.{Ends}
-use Rattle.munkres.specs.Square.{Square}
+use Rattle.ground.specs.Square.{Square}
 
 -- the first k places
 unfoldable pub zipped : List ℕ → List ℕ → ℕ → List (ℕ × ℕ)

@@ -1,20 +1,16 @@
--- What an adjustment asks, and the prices of a set of lines that change alike.
-use mathlib.Core.Bool.{Bool, cond}
+-- What the working values that follow the prices ask.
+use mathlib.Core.Bool.{Bool}
 use mathlib.Core.List.{List}
 use Prim.Native.Nat.{ℕ, _+_, _*_, _<_}
 use lib.Dec.{T}
-use lib.IntN.{ℤ, pos, _+ℤ_}
+use lib.IntN.{ℤ, pos}
 use lib.ListN.{getD}
 use mir.Syntax.{w64}
 use mir.Val.{SFits}
-use Rattle.lines.specs.Square.{each}
 use Rattle.lines.specs.Sets.{has}
 use Rattle.steps.specs.Lent.{allows}
 use Rattle.steps.specs.Steps.{follow, followed}
-use Rattle.munkres.specs.Square.{Flags, Grid, Fit64}
-
-unfoldable pub shifted : ℤ → ℕ → List ℤ → List ℤ
-shifted z lines = each (λ i p. cond (has lines i) (p +ℤ z) p)
+use Rattle.ground.specs.Square.{Flags, Grid, Fit64}
 
 -- every changed value fits 64 bits: of one row, and of all
 pub record FollowsRow (n : ℕ) (mask : List ℕ) (columns row : ℕ) (covered : Bool) (change : ℤ) (working : List ℤ) : Type 0 where

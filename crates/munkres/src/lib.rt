@@ -1,18 +1,16 @@
 // The solver: what is lent is judged, the steps are made, and their end is given back.
 ghost use mathlib.Core.Path.{_≡_};
-ghost use Rattle.assignment.specs.Problem.{total};
 ghost use Rattle.steps.specs.Lent.{task, buffers};
 ghost use Rattle.steps.specs.Refusal.{accepted, verdict};
-ghost use Rattle.steps.specs.Outcome.{Outcome, given};
+ghost use Rattle.steps.specs.Outcome.{Outcome};
 ghost use Rattle.steps.specs.Promise.{Promise};
+use ground::answer;
 use rules::Verdict;
 use steps::Answer;
 
-mod answer;
 mod coverage;
 mod mark_matrix;
 mod path;
-mod run;
 mod step;
 mod weight_matrix;
 
@@ -75,13 +73,6 @@ pub fn solve_assignment(
         column_prices.len(),
     );
     match verdict {
-        Verdict::Refused(number, place) => answer::refused(number, place, 0, 0),
-        Verdict::Dead(row) => answer::refused(
-            6,
-            0,
-            coverage::cover(0, row),
-            coverage::all_lines(n),
-        ),
         Verdict::Accepted => solve(
             n,
             costs,
@@ -93,5 +84,6 @@ pub fn solve_assignment(
             row_prices,
             column_prices,
         ),
+        _ => answer::stopped(n, verdict),
     }
 }

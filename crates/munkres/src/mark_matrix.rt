@@ -4,38 +4,15 @@ ghost use mathlib.Core.Bool.{cond};
 ghost use Prim.Native.Nat.{_+_, _*_, _<_};
 ghost use lib.Dec.{eqb};
 ghost use lib.ListN.{length, getD, set};
-ghost use Rattle.lines.specs.First.{first};
-ghost use Rattle.lines.specs.Square.{cell};
-ghost use Rattle.steps.specs.Steps.{star-in-row, star-in-column, prime-in-row, clear-primes};
-ghost use Rattle.munkres.specs.Square.{Square};
-
-fn find_first_mark_in_row(n: usize, marks: &[u8], row: usize, mark: u8) -> usize
-    requires { ⌜ Square n (now marks) × (row < n) ⌝ }
-    ensures { λ r. ⌜ r ≡ first (λ j. eqb (cell 0 n (now (marks .entry)) row j) mark) n ⌝ }
-{
-    let start = row * n;
-    let mut column = 0;
-    while column < n {
-        if marks[start + column] == mark {
-            return column;
-        }
-        column += 1;
-    }
-    n
-}
-
-pub(crate) fn find_first_star_in_row(n: usize, marks: &[u8], row: usize) -> usize
-    requires { ⌜ Square n (now marks) × (row < n) ⌝ }
-    ensures { λ r. ⌜ r ≡ star-in-row n (now (marks .entry)) row ⌝ }
-{
-    find_first_mark_in_row(n, marks, row, 1)
-}
+ghost use Rattle.steps.specs.Steps.{star-in-column, prime-in-row, clear-primes};
+ghost use Rattle.ground.specs.Square.{Square};
+use ground::marks;
 
 pub(crate) fn find_first_prime_in_row(n: usize, marks: &[u8], row: usize) -> usize
     requires { ⌜ Square n (now marks) × (row < n) ⌝ }
     ensures { λ r. ⌜ r ≡ prime-in-row n (now (marks .entry)) row ⌝ }
 {
-    find_first_mark_in_row(n, marks, row, 2)
+    marks::find_first_mark_in_row(n, marks, row, 2)
 }
 
 pub(crate) fn find_first_star_in_column(n: usize, marks: &[u8], column: usize) -> usize

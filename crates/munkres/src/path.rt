@@ -1,7 +1,7 @@
 // Step 5's path: its places are recorded first, and flipped then.
 ghost use mathlib.Core.Path.{_≡_};
 ghost use Prim.Native.Nat.{_*_, _<_};
-ghost use Rattle.steps.specs.Steps.{path, flip};
+ghost use Rattle.steps.specs.Steps.{flip};
 ghost use Rattle.munkres.specs.Path.{zipped, Walks, Recorded, Flips};
 use crate::mark_matrix;
 

@@ -2,20 +2,24 @@
 ghost use mathlib.Core.Path.{_≡_};
 ghost use Prim.Native.Nat.{_+_, _*_, _<_};
 ghost use lib.ListN.{length};
-ghost use lib.IntN.{pos};
 ghost use Rattle.lines.specs.Square.{table, square};
 ghost use Rattle.steps.specs.Lent.{allows, cost-at};
 ghost use Rattle.steps.specs.Steps.{machine, step2, step3, step4, step5, step6, step as Steps·step, start as Steps·start};
-ghost use Rattle.munkres.specs.Square.{Grid};
-ghost use Rattle.munkres.specs.View.{view};
-ghost use Rattle.munkres.specs.Good.{ForStart, ForStep3, ForStep4, ForStep5, ForStep6, Good, Came};
+ghost use Rattle.ground.specs.Square.{Grid};
+ghost use Rattle.ground.specs.View.{view};
+ghost use Rattle.ground.specs.Good.{ForStart, Good, Came};
+ghost use Rattle.munkres.specs.ForSteps.{ForStep3, ForStep4, ForStep5, ForStep6};
 use crate::coverage;
 use crate::mark_matrix;
 use crate::path;
-use crate::run;
-use crate::run::Next;
-use crate::run::Run;
 use crate::weight_matrix;
+use ground::marks;
+use ground::prices;
+use ground::prices::Least;
+use ground::run;
+use ground::run::Next;
+use ground::run::Run;
+use ground::sets;
 
 // ---- steps 1 and 2
 
@@ -26,16 +30,6 @@ fn clear_marks(marks: &mut [u8])
     while place < marks.len() {
         marks[place] = 0;
         place += 1;
-    }
-}
-
-fn clear_prices(prices: &mut [i64])
-    ensures { λ _. ⌜ now (prices .exit) ≡ table (λ k. pos 0) (length (now (prices .entry))) ⌝ }
-{
-    let mut line = 0;
-    while line < prices.len() {
-        prices[line] = 0;
-        line += 1;
     }
 }
 
@@ -50,7 +44,7 @@ fn step_2(n: usize, mask: &[u8], working: &[i64], marks: &mut [u8])
         let column = coverage::find_zero_in_row(n, mask, working, taken, row);
         if column < n {
             marks[row * n + column] = 1;
-            taken = coverage::cover(taken, column);
+            taken = sets::cover(taken, column);
         }
         row += 1;
     }
@@ -71,7 +65,7 @@ pub(crate) fn start(
         ≡ Steps·start n (allows n (now (mask .entry))) (cost-at n (now (costs .entry))) ⌝ }
 {
     weight_matrix::sub_min_of_each_row(n, costs, mask, working, row_prices);
-    clear_prices(column_prices);
+    prices::clear_prices(column_prices);
     clear_marks(marks);
     step_2(n, mask, working, marks);
     run::begun()
@@ -88,9 +82,9 @@ fn step_3(n: usize, run: Run, marks: &[u8]) -> Run
     let mut stars = 0;
     let mut row = 0;
     while row < n {
-        let column = mark_matrix::find_first_star_in_row(n, marks, row);
+        let column = marks::find_first_star_in_row(n, marks, row);
         if column < n {
-            columns = coverage::cover(columns, column);
+            columns = sets::cover(columns, column);
             stars += 1;
         }
         row += 1;
@@ -114,7 +108,7 @@ fn step_4(n: usize, mask: &[u8], run: Run, working: &[i64], marks: &mut [u8]) ->
     match found {
         coverage::Cell::At(row, column) => {
             marks[row * n + column] = 2;
-            let star = mark_matrix::find_first_star_in_row(n, marks, row);
+            let star = marks::find_first_star_in_row(n, marks, row);
             if star < n {
                 return run::covering(run, row, star);
             }
@@ -155,18 +149,13 @@ fn step_6(
     let columns = run.columns;
     let least = weight_matrix::least_uncovered(n, mask, working, rows, columns);
     match least {
-        weight_matrix::Least::Nothing => run::to(run, Next::NoPairing),
-        weight_matrix::Least::Value(change) => {
+        Least::Nothing => run::to(run, Next::NoPairing),
+        Least::Value(change) => {
             if run.adjustments == budget {
                 return run::to(run, Next::Unfinished);
             }
             weight_matrix::follow_prices(n, mask, rows, columns, change, working);
-            weight_matrix::shift_prices(rows, -change, row_prices);
-            weight_matrix::shift_prices(
-                coverage::uncovered_lines(n, columns),
-                change,
-                column_prices,
-            );
+            prices::adjust_prices(n, rows, columns, change, row_prices, column_prices);
             run::adjusting(run)
         }
     }

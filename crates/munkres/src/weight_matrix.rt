@@ -1,9 +1,9 @@
-// Working values and prices: row minima, the least uncovered value, and what an adjustment changes.
+// Working values: what each cost is above its row's minimum, the least uncovered value, and what an adjustment changes.
 ghost use mathlib.Core.Path.{_≡_};
 ghost use mathlib.Core.Bool.{cond, not, _&&_};
-ghost use Prim.Native.Nat.{ℕ, _+_, _*_, _/_, _%_, _<_, _≤_};
+ghost use Prim.Native.Nat.{ℕ, _+_, _*_, _/_, _%_, _<_};
 ghost use lib.Dec.{T, eqb};
-ghost use lib.IntN.{ℤ, pos, _-ℤ_};
+ghost use lib.IntN.{pos, _-ℤ_};
 ghost use lib.ListN.{length, getD};
 ghost use mir.Syntax.{w64};
 ghost use mir.Val.{SFits};
@@ -13,28 +13,12 @@ ghost use Rattle.lines.specs.Sets.{has};
 ghost use Rattle.lines.specs.Bounds.{Within};
 ghost use Rattle.steps.specs.Lent.{allows, cost-at};
 ghost use Rattle.steps.specs.Steps.{is-zero, row-price, excess, uncovered, follow, followed};
-ghost use Rattle.munkres.specs.Square.{Square, Grid, Fit64};
-ghost use Rattle.munkres.specs.Prices.{FollowsRow, Follows, shifted};
-ghost use Rattle.munkres.specs.Least.{lesser-of, least-from};
-use crate::coverage;
-
-pub(crate) enum Least {
-    Value(i64),
-    Nothing,
-}
-
-fn lesser(least: Least, value: i64) -> Least
-    ensures { λ r. ⌜ r ≡ lesser-of least value ⌝ }
-{
-    match least {
-        Least::Nothing => Least::Value(value),
-        Least::Value(best) => if value < best {
-            Least::Value(value)
-        } else {
-            Least::Value(best)
-        },
-    }
-}
+ghost use Rattle.ground.specs.Square.{Square, Grid};
+ghost use Rattle.munkres.specs.Prices.{FollowsRow, Follows};
+ghost use Rattle.ground.specs.Least.{least-from};
+use ground::prices;
+use ground::prices::Least;
+use ground::sets;
 
 // 0 for the mask byte of an allowed cell, and more for any other.
 fn blocked(byte: u8) -> i64
@@ -52,35 +36,6 @@ pub(crate) fn is_element_zero(mask: &[u8], working: &[i64], place: usize) -> boo
 }
 
 // ---- step 1
-
-// The least allowed cost of the row, at most 2^31 away from 0 as every `i32` is.
-fn min_of_row(n: usize, costs: &[i32], mask: &[u8], row: usize) -> Least
-    requires { ⌜ Square n (now costs) × Square n (now mask) × (row < n) ⌝ }
-    ensures { λ r. ⌜ (r ≡ least-from Least.Nothing (allows n (now (mask .entry)) row) (cost-at n (now (costs .entry)) row) n)
-        × ((z : ℤ) → r ≡ Least.Value z → Within 2147483648 z) ⌝ }
-{
-    let start = row * n;
-    let mut least = Least::Nothing;
-    let mut column = 0;
-    while column < n {
-        if mask[start + column] == 1 {
-            least = lesser(least, costs[start + column] as i64);
-        }
-        column += 1;
-    }
-    least
-}
-
-// The row's price; 0 for a row without an allowed cell, of which there is none.
-fn price_of_row(n: usize, costs: &[i32], mask: &[u8], row: usize) -> i64
-    requires { ⌜ Square n (now costs) × Square n (now mask) × (row < n) × T (any (allows n (now mask) row) n) ⌝ }
-    ensures { λ r. ⌜ (r ≡ row-price n (allows n (now (mask .entry))) (cost-at n (now (costs .entry))) row) × Within 2147483648 r ⌝ }
-{
-    match min_of_row(n, costs, mask, row) {
-        Least::Value(price) => price,
-        Least::Nothing => 0,
-    }
-}
 
 // Each allowed cell of the row becomes what its cost is above the price, and each other one 0.
 fn sub_row(n: usize, costs: &[i32], mask: &[u8], row: usize, price: i64, working: &mut [i64])
@@ -113,7 +68,7 @@ pub(crate) fn sub_min_of_each_row(
 {
     let mut row = 0;
     while row < n {
-        let price = price_of_row(n, costs, mask, row);
+        let price = prices::price_of_row(n, costs, mask, row);
         row_prices[row] = price;
         sub_row(n, costs, mask, row, price, working);
         row += 1;
@@ -136,13 +91,13 @@ fn least_in_row(
 {
     let start = row * n;
     let mut least = so_far;
-    let mut left = coverage::uncovered_lines(n, columns);
+    let mut left = sets::uncovered_lines(n, columns);
     while left != 0 {
-        let column = coverage::lowest_line(left);
+        let column = sets::lowest_line(left);
         if mask[start + column] == 1 {
-            least = lesser(least, working[start + column]);
+            least = prices::lesser(least, working[start + column]);
         }
-        left = coverage::without_lowest(left);
+        left = sets::without_lowest(left);
     }
     least
 }
@@ -159,11 +114,11 @@ pub(crate) fn least_uncovered(
     ensures { λ r. ⌜ r ≡ least-from Least.Nothing (λ q. uncovered rows columns (q / n) (q % n) && allows n (now (mask .entry)) (q / n) (q % n)) (λ q. getD (now (working .entry)) q (pos 0)) (n * n) ⌝ }
 {
     let mut least = Least::Nothing;
-    let mut left = coverage::uncovered_lines(n, rows);
+    let mut left = sets::uncovered_lines(n, rows);
     while left != 0 {
-        let row = coverage::lowest_line(left);
+        let row = sets::lowest_line(left);
         least = least_in_row(n, mask, working, columns, row, least);
-        left = coverage::without_lowest(left);
+        left = sets::without_lowest(left);
     }
     least
 }
@@ -194,12 +149,12 @@ fn follow_row(
     ensures { λ _. ⌜ now (working .exit) ≡ each-row n row (λ j w. cond (allows n (now (mask .entry)) row j) (follow change covered (has columns j) w) w) (now (working .entry)) ⌝ }
 {
     let start = row * n;
-    let mut left = coverage::lines_alike(n, columns, covered);
+    let mut left = sets::lines_alike(n, columns, covered);
     while left != 0 {
-        let place = start + coverage::lowest_line(left);
+        let place = start + sets::lowest_line(left);
         let amount = change * mask[place] as i64;
         working[place] = followed_value(amount, covered, covered, working[place]);
-        left = coverage::without_lowest(left);
+        left = sets::without_lowest(left);
     }
 }
 
@@ -221,24 +176,10 @@ pub(crate) fn follow_prices(
             mask,
             columns,
             row,
-            coverage::is_covered(rows, row),
+            sets::is_covered(rows, row),
             change,
             working,
         );
         row += 1;
-    }
-}
-
-// The prices of a set of lines change.
-pub(crate) fn shift_prices(lines: u64, change: i64, prices: &mut [i64])
-    requires { ⌜ (length (now prices) ≤ 64) × SFits w64 change × Fit64 (shifted change lines (now prices)) ⌝ }
-    ensures { λ _. ⌜ now (prices .exit) ≡ shifted change lines (now (prices .entry)) ⌝ }
-{
-    let mut line = 0;
-    while line < prices.len() {
-        if coverage::is_covered(lines, line) {
-            prices[line] = prices[line] + change;
-        }
-        line += 1;
     }
 }

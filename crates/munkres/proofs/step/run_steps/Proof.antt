@@ -4,8 +4,8 @@ use mathlib.Core.Path.{sym, _∙_}
 use Rattle.steps.specs.Lent.{allows}
 use Rattle.steps.specs.Steps.{machine}
 use Rattle.steps.specs.Bounds.{left}
-use Rattle.munkres.specs.View.{view}
-use Rattle.munkres.proofs.Arms.{Coming, coming-here, coming-next, coming-falls, came}
+use Rattle.ground.specs.View.{view}
+use Rattle.ground.proofs.Arms.{Coming, coming-here, coming-next, coming-falls, came}
 use Rattle.munkres.proofs.step.run_steps.Statement.{statement}
 use Rattle.munkres.proofs.step.run_steps.Tie as tie
 

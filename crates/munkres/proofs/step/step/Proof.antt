@@ -1,9 +1,9 @@
 -- `step` meets its contract: each arm is one step's own equation (`Arms`).
 use mathlib.Core.Path.{ap}
 use Rattle.steps.specs.Counts.{over}
-use Rattle.munkres.specs.View.{view-next}
-use Rattle.munkres.proofs.GoodLaws.{at-step3, at-step4, at-step5, at-step6}
-use Rattle.munkres.proofs.Arms.{arm-3, arm-4, arm-5, arm-6, arm-end}
+use Rattle.ground.specs.View.{view-next}
+use Rattle.munkres.proofs.AskLaws.{at-step3, at-step4, at-step5, at-step6}
+use Rattle.ground.proofs.Arms.{arm-3, arm-4, arm-5, arm-6, arm-end}
 use borrow.Author.Needs.{needs}
 use Rattle.munkres.proofs.step.step.Statement.{statement}
 use Rattle.munkres.proofs.step.step.Tie as tie

@@ -5,7 +5,7 @@ use mathlib.Core.Logic.{⊎-elim}
 use borrow.Author.Needs.{needs}
 use borrow.Author.Tests.{eq-eqb, ne-eqb}
 use native.Mathlib.Omega.{arith}
-use Rattle.munkres.specs.View.{view}
+use Rattle.ground.specs.View.{view}
 use Rattle.munkres.proofs.StarLaws.{Gathered, gathered-none, gathered-few, gathered-star, gathered-skip, gathered-all}
 use Rattle.munkres.proofs.step.step_3.Statement.{statement}
 use Rattle.munkres.proofs.step.step_3.Tie as tie

@@ -5,7 +5,7 @@ use Prim.Native.Nat.{_+_, _*_, _<_}
 use lib.ListN.{length-set}
 use Rattle.lines.proofs.Squares.{place-lt}
 use Rattle.steps.specs.Lent.{allows}
-use Rattle.munkres.specs.View.{view}
+use Rattle.ground.specs.View.{view}
 use Rattle.munkres.proofs.StepLaws.{Found, found-at, step4-covers, step4-reaches, step4-none}
 use borrow.Author.Needs.{needs}
 use Rattle.munkres.proofs.step.step_4.Statement.{statement}
@@ -49,7 +49,11 @@ covering-requires : tie.Need-covering-requires
 covering-requires c κs =
     let at = c .before .before .before in
     let pre = start at .pre in
-    (omega (arith, found at .row-below, pre .grid .word .most), omega (arith, c .if1 .taken, pre .grid .word .most), pre .more)
+    record {
+      row-bit = omega (arith, found at .row-below, pre .grid .word .most);
+      star-bit = omega (arith, c .if1 .taken, pre .grid .word .most);
+      more = pre .more;
+    }
 
 same-length : tie.Need-same-length
 same-length c = search needs

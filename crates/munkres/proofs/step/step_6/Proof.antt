@@ -1,17 +1,17 @@
 -- `step_6` meets its contract, by what was found: no uncovered value, a spent budget, or a value to adjust by.
-use native.Mathlib.Omega.{arith}
-use mathlib.Core.Path.{_≡_, sym, ap, _∙_}
+use mathlib.Core.Path.{_≡_, sym, _∙_}
 use Prim.Native.Nat.{_*_, _<_}
-use lib.IntN.{pos, negℤ, _-ℤ_, +ℤ-idl}
+use lib.IntN.{pos}
 use lib.ListN.{getD}
 use mir.Syntax.{w64}
 use mir.Val.{toZ, ofZ}
 use Rattle.steps.specs.Lent.{allows}
 use Rattle.steps.specs.Steps.{lowest}
-use Rattle.munkres.specs.View.{view}
-use Rattle.munkres.specs.Good.{Adjusts}
-use Rattle.munkres.proofs.Values.{value-found, value-none}
-use Rattle.munkres.proofs.StepLaws.{back, step6-none, step6-spent, step6-adjusts, lowered-shifted, raised-shifted}
+use Rattle.ground.specs.View.{view}
+use Rattle.ground.specs.Good.{Adjusts}
+use Rattle.ground.proofs.Values.{value-found, value-none}
+use Rattle.ground.proofs.Wide.{back}
+use Rattle.ground.proofs.Adjusting.{step6-none, step6-spent, step6-adjusts}
 use borrow.Author.Needs.{needs}
 use Rattle.munkres.proofs.step.step_6.Statement.{statement}
 use Rattle.munkres.proofs.step.step_6.Tie as tie
@@ -80,27 +80,13 @@ change : (c : tie.Else1) → let a = start (value c) .args in
     toZ w64 (ofZ w64 (value c .least .given .0 .0)) ≡ getD (a .working .now) (lowest (a .n) (allows (a .n) (a .mask .now)) (a .working .now) (a .run .rows) (a .run .columns)) (pos 0)
 change c = back _ _ (found (value c) .1) (adjusts c .change)
 
--- and its negative
-turned : (c : tie.Else1) → let a = start (value c) .args in
-    pos 0 -ℤ toZ w64 (ofZ w64 (value c .least .given .0 .0))
-    ≡ negℤ (getD (a .working .now) (lowest (a .n) (allows (a .n) (a .mask .now)) (a .working .now) (a .run .rows) (a .run .columns)) (pos 0))
-turned c = ap (λ z. pos 0 -ℤ z) (change c) ∙ +ℤ-idl _
-
-turned-back : (c : tie.Else1) → let a = start (value c) .args in
-    toZ w64 (ofZ w64 (pos 0 -ℤ toZ w64 (ofZ w64 (value c .least .given .0 .0))))
-    ≡ negℤ (getD (a .working .now) (lowest (a .n) (allows (a .n) (a .mask .now)) (a .working .now) (a .run .rows) (a .run .columns)) (pos 0))
-turned-back c = back _ _ (turned c) (adjusts c .back)
-
--- ---- working values, row prices, column prices
+-- ---- working values, then prices
 
 abbrev left : tie.After-follow-prices-arg → tie.Else1
 left c = c .before
 
-abbrev followed : tie.After-shift-prices-arg → tie.After-follow-prices
-followed c = c .before .before
-
-abbrev lowered : tie.After-shift-prices-arg2 → tie.After-shift-prices
-lowered c = c .before .before .before
+abbrev followed : tie.After-adjust-prices-arg2 → tie.After-follow-prices
+followed c = c .before .before .before
 
 follow-prices-requires : tie.Need-follow-prices-requires
 follow-prices-requires c κs =
@@ -108,29 +94,18 @@ follow-prices-requires c κs =
     let pre = start (value e) .pre in
     record { grid = pre .grid; flags = pre .flags; fits = rw (change e) (adjusts e .change); values = rw (change e) (adjusts e .values) }
 
-sub-shift-prices : tie.Need-sub-shift-prices
-sub-shift-prices c = let e = left (c .before .before) in rw (turned e) (adjusts e .back)
-
-shift-prices-requires : tie.Need-shift-prices-requires
-shift-prices-requires c κs =
+adjust-prices-requires : tie.Need-adjust-prices-requires
+adjust-prices-requires c κs =
     let e = left (followed c .before) in
-    let pre = start (value e) .pre in (
-      omega (arith, pre .row-lines, pre .grid .word .most),
-      rw (turned-back e) (adjusts e .back),
-      rw (turned-back e, lowered-shifted) (adjusts e .lower),
-    )
-
-uncovered-lines-requires : tie.Need-uncovered-lines-requires
-uncovered-lines-requires c κs = search needs
-
-shift-prices-requires-2 : tie.Need-shift-prices-requires-2
-shift-prices-requires-2 c κs =
-    let e = left (followed (lowered c .before) .before) in
-    let pre = start (value e) .pre in (
-      omega (arith, pre .column-lines, pre .grid .word .most),
-      rw (change e) (adjusts e .change),
-      rw (change e, raised-shifted _ _ _ _ _ (c .before .uncovered-lines .ensures) (pre .column-lines)) (adjusts e .higher),
-    )
+    let pre = start (value e) .pre in
+    record {
+      word = pre .grid .word;
+      row-lines = pre .row-lines;
+      column-lines = pre .column-lines;
+      back = rw (change e) (adjusts e .back);
+      lower = rw (change e) (adjusts e .lower);
+      higher = rw (change e) (adjusts e .higher);
+    }
 
 adjusting-requires : tie.Need-adjusting-requires
 adjusting-requires c κs = search needs
@@ -146,15 +121,11 @@ same-length-5 c = search needs
 
 returns-3 : tie.Need-returns-3
 returns-3 c =
-    let raise = c .before .before in
-    let lower = lowered (raise .before) in
-    let follow = followed (lower .before) in
+    let adjust = c .before .before .before in
+    let follow = followed (adjust .before) in
     let e = left (follow .before) in
-    let s = start (value e) in
-    step6-adjusts _ _ _ (view (s .args .run)) _ _ _ (found (value e) .0) _ _ _ _ (change e) (e .if1 .left) (follow .follow-prices .ensures)
-    (lower .shift-prices .ensures ∙ rw (turned-back e, change e, lowered-shifted))
-    (raise .shift-prices2 .ensures ∙ raised-shifted _ _ _ _ _ (raise .before .before .uncovered-lines .ensures) (s .pre .column-lines))
-    (c .adjusting .ensures)
+    step6-adjusts _ _ _ (view (start (value e) .args .run)) _ _ _ (found (value e) .0) _ _ _ _ (change e) (e .if1 .left)
+    (follow .follow-prices .ensures) (adjust .adjust-prices .ensures .0) (adjust .adjust-prices .ensures .1) (c .adjusting .ensures)
 
 pub step-6-spec : {M : Type 1} → statement M
 step-6-spec =
@@ -168,10 +139,7 @@ step-6-spec =
     same-length
     returns
     follow-prices-requires
-    sub-shift-prices
-    shift-prices-requires
-    uncovered-lines-requires
-    shift-prices-requires-2
+    adjust-prices-requires
     adjusting-requires
     same-length-2
     returns-2

@@ -1,7 +1,7 @@
 -- `weight_matrix::blocked` meets its contract.
 use borrow.Author.Needs.{needs}
 use native.Mathlib.Omega.{arith}
-use Rattle.munkres.proofs.Wide.{back64}
+use Rattle.ground.proofs.Wide.{back64}
 use Rattle.munkres.proofs.weight_matrix.blocked.Statement.{statement}
 use Rattle.munkres.proofs.weight_matrix.blocked.Tie as tie
 

@@ -13,7 +13,7 @@ use Rattle.lines.proofs.Tests.{T-true}
 use Rattle.lines.proofs.Rows.{RowsPassed, rows-none, rows-more, rows-next, rows-all}
 use Rattle.steps.specs.Lent.{allows}
 use Rattle.steps.specs.Steps.{follow, followed}
-use Rattle.munkres.proofs.Wide.{square-fits}
+use Rattle.ground.proofs.Wide.{square-fits}
 use Rattle.munkres.proofs.weight_matrix.follow_prices.Statement.{statement}
 use Rattle.munkres.proofs.weight_matrix.follow_prices.Tie as tie
 

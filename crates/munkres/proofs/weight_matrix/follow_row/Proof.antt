@@ -19,7 +19,7 @@ use Rattle.steps.specs.Steps.{follow}
 use Rattle.lines.proofs.Bounds.{row-end}
 use Rattle.steps.proofs.Masks.{allows-is}
 use Rattle.munkres.proofs.Flags.{product-fits, product-is, follow-flag}
-use Rattle.munkres.proofs.Wide.{back64}
+use Rattle.ground.proofs.Wide.{back64}
 use Rattle.munkres.proofs.weight_matrix.follow_row.Statement.{statement}
 use Rattle.munkres.proofs.weight_matrix.follow_row.Tie as tie
 

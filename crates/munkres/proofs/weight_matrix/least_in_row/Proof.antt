@@ -12,12 +12,12 @@ use Rattle.lines.proofs.Tests.{cases}
 use Rattle.lines.proofs.Sets.{rest-lt}
 use Rattle.lines.proofs.Walks.{Walk, Passes, Met, walk-begin, walk-meets, walk-end, lacked, not-lacked}
 use Rattle.steps.specs.Lent.{allows}
-use Rattle.munkres.specs.declared.weight_matrix.Least.{Least}
-use Rattle.munkres.specs.Least.{least-from}
+use Rattle.ground.specs.declared.prices.Least.{Least}
+use Rattle.ground.specs.Least.{least-from}
 use Rattle.lines.proofs.Bounds.{row-end}
 use Rattle.steps.proofs.Masks.{allows-yes, allows-no}
-use Rattle.munkres.proofs.Wide.{back64}
-use Rattle.munkres.proofs.Values.{from-take, from-skip}
+use Rattle.ground.proofs.Wide.{back64}
+use Rattle.ground.proofs.Values.{from-take, from-skip}
 use Rattle.munkres.proofs.weight_matrix.least_in_row.Statement.{statement}
 use Rattle.munkres.proofs.weight_matrix.least_in_row.Tie as tie
 

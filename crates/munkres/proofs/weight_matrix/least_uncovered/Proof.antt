@@ -11,9 +11,9 @@ use Rattle.lines.proofs.Sets.{rest-lt}
 use Rattle.lines.proofs.Walks.{Walk, Passes, Met, walk-begin, walk-meets, walk-end, lacked, not-lacked}
 use Rattle.steps.specs.Lent.{allows}
 use Rattle.steps.specs.Steps.{uncovered}
-use Rattle.munkres.specs.declared.weight_matrix.Least.{Least}
-use Rattle.munkres.specs.declared.weight_matrix.Least.the-variants.{Nothing}
-use Rattle.munkres.proofs.Values.{rows-least, rows-least-none, row-searched, row-passed-over}
+use Rattle.ground.specs.declared.prices.Least.{Least}
+use Rattle.ground.specs.declared.prices.Least.the-variants.{Nothing}
+use Rattle.munkres.proofs.Rows.{rows-least, rows-least-none, row-searched, row-passed-over}
 use Rattle.munkres.proofs.weight_matrix.least_uncovered.Statement.{statement}
 use Rattle.munkres.proofs.weight_matrix.least_uncovered.Tie as tie
 

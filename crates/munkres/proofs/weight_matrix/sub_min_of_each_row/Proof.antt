@@ -8,7 +8,7 @@ use Rattle.lines.proofs.Loops.{Passed, passed-none, passed-store, filled-all}
 use Rattle.lines.proofs.Rows.{RowsPassed, rows-none, rows-more, rows-filled}
 use Rattle.steps.specs.Lent.{allows, cost-at}
 use Rattle.steps.specs.Steps.{row-price, excess}
-use Rattle.munkres.proofs.Wide.{back64}
+use Rattle.ground.proofs.Wide.{back64}
 use Rattle.munkres.proofs.weight_matrix.sub_min_of_each_row.Statement.{statement}
 use Rattle.munkres.proofs.weight_matrix.sub_min_of_each_row.Tie as tie
 
@@ -24,7 +24,9 @@ loop-holds : tie.Need-loop-holds Inv-loop μ-loop
 loop-holds c = (search needs, rows-none _ _ _ _, passed-none _ _ _)
 
 price-of-row-requires : tie.Need-price-of-row-requires Inv-loop μ-loop
-price-of-row-requires c κs = (search needs, search needs, search needs, c .before .before .before .pre .4 _ (omega arith))
+price-of-row-requires c κs =
+    let pre = c .before .before .before .pre in
+    (record { costs-square = pre .0; mask-square = pre .1; below = search needs }, pre .4 _ (omega arith))
 
 mul-price : tie.Need-mul-price Inv-loop μ-loop
 mul-price c = search needs

@@ -13,7 +13,7 @@ use Rattle.lines.proofs.Rows.{RowPassed, row-none, row-store, row-all}
 use Rattle.steps.specs.Lent.{allows, cost-at}
 use Rattle.lines.proofs.Bounds.{row-end}
 use Rattle.steps.proofs.Masks.{allows-yes, allows-no}
-use Rattle.munkres.proofs.Wide.{wide-fits, excess-fits, excess-back}
+use Rattle.ground.proofs.Wide.{wide-fits, excess-fits, excess-back}
 use Rattle.munkres.proofs.weight_matrix.sub_row.Statement.{statement}
 use Rattle.munkres.proofs.weight_matrix.sub_row.Tie as tie
 

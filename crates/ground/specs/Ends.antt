@@ -1,0 +1,45 @@
+-- What is asked where the answer is given.
+use mathlib.Core.Path.{_≡_}
+use mathlib.Core.Logic.{_≢_}
+use mathlib.Core.Bool.{true}
+use mathlib.Core.List.{List}
+use mathlib.Core.Option.{some}
+use Prim.Native.Nat.{ℕ, _≤_, _<_}
+use lib.IntN.{ℤ}
+use lib.ListN.{length}
+use Rattle.lines.specs.Bounds.{Within}
+use Rattle.steps.specs.declared.Answer.{Answer}
+use Rattle.steps.specs.Lent.{Task, Buffers, most-cost, cost-at}
+use Rattle.steps.specs.Refusal.{Verdict, dead, accepted}
+use Rattle.steps.specs.Outcome.{judged}
+use Rattle.steps.specs.Steps.{Next, Paired, star-in-row}
+use Rattle.steps.specs.Counts.{over}
+use Rattle.ground.specs.Square.{Square, InWord}
+
+-- a row that the judgement found lies in the square
+abbrev pub Inside : ℕ → Verdict → Type 0
+Inside n v = (row : ℕ) → v ≡ dead row → (row < n) × (n ≤ 64)
+
+-- this is given back where the judgement stops the call
+abbrev pub Stopped : ℕ → Verdict → Answer → Type 0
+Stopped n v a = v ≢ accepted → (t : Task) (b : Buffers) → t .n ≡ n → judged t b 0 v ≡ some (a, b)
+
+-- every row has a star, whose cost is in range
+abbrev pub StarsInRange : ℕ → List ℤ → List ℕ → Type 0
+StarsInRange n costs marks = (i : ℕ) → i < n → (star-in-row n marks i < n) × Within most-cost (cost-at n costs i (star-in-row n marks i))
+
+pub record Chooses (n : ℕ) (costs : List ℤ) (marks columns : List ℕ) : Type 0 where
+  pub most : n ≤ 64
+  pub costs-square : Square n costs
+  pub marks-square : Square n marks
+  pub lines : length columns ≡ n
+  pub stars : StarsInRange n costs marks
+
+-- the run is at an end, and at a pairing every row's star has a cost in range
+pub record Finishes (n : ℕ) (costs : List ℤ) (next : Next) (marks columns : List ℕ) : Type 0 where
+  pub word : InWord n
+  pub costs-square : Square n costs
+  pub marks-square : Square n marks
+  pub lines : length columns ≡ n
+  pub ended : over next ≡ true
+  pub stars : next ≡ Paired → StarsInRange n costs marks

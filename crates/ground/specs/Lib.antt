@@ -1,0 +1,6 @@
+pub mod Square
+pub mod View
+pub mod Least
+pub mod Prices
+pub mod Good
+pub mod Ends
