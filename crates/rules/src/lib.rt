@@ -1,8 +1,8 @@
 // The judgement of what is lent: rules 1 to 5 in their order, then the test of the rows; for any largest n, and whatever is lent beside costs and mask.
 ghost use mathlib.Core.Path.{_≡_};
-ghost use mathlib.Core.Bool.{_&&_};
+ghost use mathlib.Core.Bool.{not, _&&_};
 ghost use Prim.Native.Nat.{_*_, _<_, _≤_};
-ghost use lib.Dec.{eqb};
+ghost use lib.Dec.{eqb, ltb};
 ghost use lib.ListN.{length};
 ghost use Rattle.lines.specs.First.{first};
 ghost use Rattle.steps.specs.Refusal.{out-of-range, bad-mask, bad-cost, dead-row, has-room, judgement};
@@ -44,7 +44,7 @@ pub fn has_room(
     column_prices == lines
 }
 
-// The room for n rows, asked only where n is not above the limit.
+// The room for n rows; none where n is above the limit.
 fn has_room_for(
     limit: u16,
     n: usize,
@@ -54,7 +54,7 @@ fn has_room_for(
     row_prices: usize,
     column_prices: usize,
 ) -> bool
-    ensures { λ r. ⌜ (n ≤ limit → r ≡ has-room (n * n) n working marks columns «row_prices» «column_prices») ⌝ }
+    ensures { λ r. ⌜ r ≡ (not (ltb limit n) && has-room (n * n) n working marks columns «row_prices» «column_prices») ⌝ }
 {
     if (limit as usize) < n {
         return false;
