@@ -12,7 +12,7 @@ use native.Mathlib.Omega.{arith}
 use lib.Dec.{T}
 use lib.IntN.{ℤ, pos}
 use lib.ListN.{length, List·getD-eq-default}
-use Rattle.lines.specs.Sets.{rest, with, all}
+use Rattle.lines.specs.Sets.{rest}
 use Rattle.lines.specs.Square.{table}
 use Rattle.lines.specs.Bounds.{Within}
 use Rattle.lines.proofs.Squares.{table-at}
@@ -23,7 +23,7 @@ use Rattle.steps.specs.Refusal as R
 use Rattle.steps.specs.Steps as S
 use Rattle.steps.specs.Steps.{Run, Machine, end-of, star-in-row, start, steps}
 use Rattle.steps.specs.Counts.{over}
-use Rattle.steps.specs.Outcome.{answer, no-run, given, written, returned, reached, judged, Outcome}
+use Rattle.steps.specs.Outcome.{answer, given, written, returned, reached, judged, Outcome}
 use Rattle.steps.specs.Promise.{Promise}
 use Rattle.steps.specs.Bounds.{limit}
 use Rattle.steps.proofs.Ends.{paired}
@@ -44,7 +44,7 @@ use Rattle.ground.specs.declared.run.Next.the-variants.{Step3, Step4, St
 use Rattle.ground.specs.View.{view-next}
 use Rattle.ground.specs.Square.{InWord, Flags}
 use Rattle.ground.specs.Good.{ForStart, Frame, Kept, Good, Came}
-use Rattle.ground.specs.Ends.{Inside, Stopped, Finishes}
+use Rattle.ground.specs.Ends.{Inside, stop, Finishes}
 use Rattle.ground.proofs.GoodLaws.{sound-at}
 
 -- ---- what an end gives back
@@ -175,18 +175,11 @@ module _ (n : ℕ) (costs : List ℤ) (mask : List ℕ) (budget : ℕ) (b : Buff
 
 -- ---- the judgement stops the call
 
-pub stopped-refused : {n : ℕ} {x : Verdict} {number place : ℕ} {a : Answer} → x ≡ Refused number place → a ≡ answer number place (pos 0) no-run 0 0 → Stopped n (view-verdict x) a
-unfolding judged
-stopped-refused e q s t b _ = rw (e, q)
-
-pub stopped-dead : {n : ℕ} {x : Verdict} {row rows columns : ℕ} {a : Answer} → x ≡ Dead row → rows ≡ with 0 row → columns ≡ all n → a ≡ answer 6 0 (pos 0) no-run rows columns
-    → Stopped n (view-verdict x) a
-unfolding judged
-stopped-dead e er ec q s t b en = rw (e, q, er, ec, en)
-
--- an accepted call is not stopped
-pub stopped-never : {n : ℕ} {x : Verdict} {a : Answer} → x ≡ Accepted → Stopped n (view-verdict x) a
-stopped-never e s = absurd (s (ap view-verdict e))
+pub stop-is : (t : Task) (b : Buffers) (v : R.Verdict) → v ≢ R.accepted → judged t b 0 v ≡ some (stop (t .n) v, b)
+unfolding judged stop
+stop-is t b (R.refused number place) s = refl
+stop-is t b (R.dead row) s = refl
+stop-is t b R.accepted s = absurd (s refl)
 
 stops : (x : Verdict) → OneOf (0 ∷ 1 ∷ []) (tagOf the-type x) → view-verdict x ≢ R.accepted
 stops (Refused number place) o e = absurd (let z : _≡_ {A = ℕ} 0 1 = cc in omega arith)
@@ -210,6 +203,6 @@ module _ (n : ℕ) (costs : List ℤ) (mask : List ℕ) (budget : ℕ) (b : Buff
   accepted-verdict f = verdict-is ∙ ap view-verdict f
 
   -- by the tag, which is that of a refusal or of a dead row
-  pub stopped-promise : {a : Answer} → OneOf (0 ∷ 1 ∷ []) (tagOf the-type x) → Stopped n (view-verdict x) a → Promise 64 (task n costs mask budget) b a b
-  stopped-promise o s =
-      promised (record { count = 0; exact = ap (judged (task n costs mask budget) b 0) verdict-is ∙ s (stops x o) (task n costs mask budget) b refl })
+  pub stopped-promise : {a : Answer} → OneOf (0 ∷ 1 ∷ []) (tagOf the-type x) → a ≡ stop n (view-verdict x) → Promise 64 (task n costs mask budget) b a b
+  stopped-promise o q =
+      promised (record { count = 0; exact = ap (judged (task n costs mask budget) b 0) verdict-is ∙ rw q (stop-is (task n costs mask budget) b (view-verdict x) (stops x o)) })

@@ -1,17 +1,16 @@
 -- What is asked where the answer is given.
 use mathlib.Core.Path.{_≡_}
-use mathlib.Core.Logic.{_≢_}
 use mathlib.Core.Bool.{true}
 use mathlib.Core.List.{List}
-use mathlib.Core.Option.{some}
 use Prim.Native.Nat.{ℕ, _≤_, _<_}
-use lib.IntN.{ℤ}
+use lib.IntN.{ℤ, pos}
 use lib.ListN.{length}
 use Rattle.lines.specs.Bounds.{Within}
+use Rattle.lines.specs.Sets.{with, all}
 use Rattle.steps.specs.declared.Answer.{Answer}
-use Rattle.steps.specs.Lent.{Task, Buffers, most-cost, cost-at}
-use Rattle.steps.specs.Refusal.{Verdict, dead, accepted}
-use Rattle.steps.specs.Outcome.{judged}
+use Rattle.steps.specs.Lent.{most-cost, cost-at}
+use Rattle.steps.specs.Refusal.{Verdict, refused, dead, accepted}
+use Rattle.steps.specs.Outcome.{answer, no-run}
 use Rattle.steps.specs.Steps.{Next, Paired, star-in-row}
 use Rattle.steps.specs.Counts.{over}
 use Rattle.ground.specs.Square.{Square, InWord}
@@ -20,9 +19,11 @@ use Rattle.ground.specs.Square.{Square, InWord}
 abbrev pub Inside : ℕ → Verdict → Type 0
 Inside n v = (row : ℕ) → v ≡ dead row → (row < n) × (n ≤ 64)
 
--- this is given back where the judgement stops the call
-abbrev pub Stopped : ℕ → Verdict → Answer → Type 0
-Stopped n v a = v ≢ accepted → (t : Task) (b : Buffers) → t .n ≡ n → judged t b 0 v ≡ some (a, b)
+-- what is given back where the judgement stops the call; an accepted call is not stopped
+unfoldable pub stop : ℕ → Verdict → Answer
+stop n (refused number place) = answer number place (pos 0) no-run 0 0
+stop n (dead row) = answer 6 0 (pos 0) no-run (with 0 row) (all n)
+stop n accepted = answer 0 0 (pos 0) no-run 0 0
 
 -- every row has a star, whose cost is in range
 abbrev pub StarsInRange : ℕ → List ℤ → List ℕ → Type 0

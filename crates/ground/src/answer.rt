@@ -10,7 +10,7 @@ ghost use Rattle.steps.specs.Steps.{end-of, star-in-row};
 ghost use Rattle.steps.specs.Outcome.{no-run, given, answer as Outcome·answer};
 ghost use Rattle.rules.specs.View.{view-verdict};
 ghost use Rattle.ground.specs.View.{view, view-next};
-ghost use Rattle.ground.specs.Ends.{Inside, Stopped, Chooses, Finishes};
+ghost use Rattle.ground.specs.Ends.{Inside, stop, Chooses, Finishes};
 use crate::marks;
 use crate::run::Next;
 use crate::run::Run;
@@ -64,10 +64,10 @@ fn refused(number: u32, place: usize, rows: u64, columns: u64) -> Answer
     }
 }
 
-// What is given back where the judgement stops the call; of an accepted call, which it does not stop, nothing is said.
+// What is given back where the judgement stops the call.
 pub fn stopped(n: usize, verdict: Verdict) -> Answer
     requires { ⌜ Inside n (view-verdict verdict) ⌝ }
-    ensures { λ r. ⌜ Stopped n (view-verdict verdict) r ⌝ }
+    ensures { λ r. ⌜ r ≡ stop n (view-verdict verdict) ⌝ }
 {
     match verdict {
         Verdict::Refused(number, place) => refused(number, place, 0, 0),

@@ -1,10 +1,10 @@
 -- `stopped` meets its contract: what the definition says of a refusal and of a row without allowed cells.
-use mathlib.Core.Path.{refl, ap}
+use mathlib.Core.Path.{ap, _∙_}
 use native.Mathlib.Omega.{arith}
 use Prim.Native.Nat.{_≤_, _<_}
 use borrow.Author.Needs.{needs}
 use Rattle.rules.specs.View.{view-verdict}
-use Rattle.ground.proofs.CallLaws.{stopped-refused, stopped-dead, stopped-never}
+use Rattle.ground.specs.Ends.{stop}
 use Rattle.ground.proofs.answer.stopped.Statement.{statement}
 use Rattle.ground.proofs.answer.stopped.Tie as tie
 
@@ -37,16 +37,19 @@ refused-requires-3 : tie.Need-refused-requires-3
 refused-requires-3 c κs = search needs
 
 returns : tie.Need-returns
-returns c = stopped-refused (c .before .before .verdict .given .1) (c .refused .ensures)
+unfolding stop
+returns c = c .refused .ensures ∙ rw (c .before .before .verdict .given .1)
 
 returns-2 : tie.Need-returns-2
+unfolding stop
 returns-2 c =
     let columns = c .before in
     let rows = columns .before in
-    stopped-dead (rows .before .before .verdict2 .given .1) (rows .cover .ensures) (columns .all-lines .ensures) (c .refused2 .ensures)
+    c .refused2 .ensures ∙ rw (rows .cover .ensures, columns .all-lines .ensures, rows .before .before .verdict2 .given .1)
 
 returns-3 : tie.Need-returns-3
-returns-3 c = stopped-never (c .before .enum-told .given .1)
+unfolding stop
+returns-3 c = c .refused3 .ensures ∙ rw (c .before .enum-told .given .1)
 
 pub stopped-spec : {M : Type 1} → statement M
 stopped-spec =

@@ -8,36 +8,45 @@ use borrow.Author.Needs.{needs}
 use Rattle.munkres.proofs.step.step.Statement.{statement}
 use Rattle.munkres.proofs.step.step.Tie as tie
 
+-- ---- places: an arm's start, and what the run says there
+
+abbrev arm-3-start : tie.After-enum-told → tie.Start
+arm-3-start c = c .before .before .before .before
+
+abbrev told-4 : tie.After-step-4-arg2 → tie.After-enum-told2
+told-4 c = c .before .before
+
+abbrev told-5 : tie.After-step-5-arg → tie.After-next
+told-5 c = c .before .before
+
+abbrev told-6 : tie.After-step-6-arg3 → tie.After-enum-told3
+told-6 c = c .before .before .before
+
+-- ---- arm by arm
+
 enum-told : tie.Need-enum-told
 enum-told c = search needs
 
 step-3-requires : tie.Need-step-3-requires
-step-3-requires c κs = let g = c .before .before .before .before .before .pre in at-step3 g (ap view-next (c .before .enum-told .given .1))
+step-3-requires c κs = let told = c .before in at-step3 (arm-3-start told .pre) (ap view-next (told .enum-told .given .1))
 
 enum-told-2 : tie.Need-enum-told-2
 enum-told-2 c = search needs
 
 step-4-requires : tie.Need-step-4-requires
-step-4-requires c κs =
-    let g = c .before .before .before .before .before .before .pre in
-    at-step4 g (ap view-next (c .before .before .enum-told2 .given .1))
+step-4-requires c κs = let told = told-4 c in at-step4 (told .before .before .before .before .pre) (ap view-next (told .enum-told2 .given .1))
 
 enum-known-next : tie.Need-enum-known-next
 enum-known-next c = search needs
 
 step-5-requires : tie.Need-step-5-requires
-step-5-requires c κs =
-    let g = c .before .before .before .before .before .before .pre in
-    let e = ap view-next (c .before .before .next .given .1) in
-    at-step5 g _ _ e
+step-5-requires c κs = let told = told-5 c in at-step5 (told .before .before .before .before .pre) _ _ (ap view-next (told .next .given .1))
 
 enum-told-3 : tie.Need-enum-told-3
 enum-told-3 c = search needs
 
 step-6-requires : tie.Need-step-6-requires
-step-6-requires c κs = let g = c .before .before .before .before .before .before .before .pre in
-    let e = ap view-next (c .before .before .before .enum-told3 .given .1) in
-    at-step6 g e
+step-6-requires c κs = let told = told-6 c in at-step6 (told .before .before .before .before .pre) (ap view-next (told .enum-told3 .given .1))
 
 enum-told-4 : tie.Need-enum-told-4
 enum-told-4 c = search needs
@@ -61,13 +70,13 @@ same-length-3 : tie.Need-same-length-3
 same-length-3 c = search needs
 
 returns-2 : tie.Need-returns-2
-returns-2 c = arm-4 _ _ _ _ (ap view-next (c .before .before .before .before .before .enum-told2 .given .1)) (c .before .before .step-4 .ensures)
+returns-2 c = let made = c .before .before in arm-4 _ _ _ _ (ap view-next (told-4 (made .before) .enum-told2 .given .1)) (made .step-4 .ensures)
 
 same-length-4 : tie.Need-same-length-4
 same-length-4 c = search needs
 
 returns-3 : tie.Need-returns-3
-returns-3 c = arm-5 _ _ _ _ (ap view-next (c .before .before .before .before .before .next .given .1)) (c .before .before .step-5 .ensures)
+returns-3 c = let made = c .before .before in arm-5 _ _ _ _ (ap view-next (told-5 (made .before) .next .given .1)) (made .step-5 .ensures)
 
 same-length-5 : tie.Need-same-length-5
 same-length-5 c = search needs
@@ -79,9 +88,7 @@ same-length-7 : tie.Need-same-length-7
 same-length-7 c = search needs
 
 returns-4 : tie.Need-returns-4
-returns-4 c =
-    arm-6 _ _ _ _ (ap view-next (c .before .before .before .before .before .before .before .enum-told3 .given .1))
-    (c .before .before .before .step-6 .ensures)
+returns-4 c = let made = c .before .before .before in arm-6 _ _ _ _ (ap view-next (told-6 (made .before) .enum-told3 .given .1)) (made .step-6 .ensures)
 
 returns-5 : tie.Need-returns-5
 returns-5 c = arm-end _ _ _ _ (ap (λ x. over (view-next x)) (c .enum-told4 .given .1))

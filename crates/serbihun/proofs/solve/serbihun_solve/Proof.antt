@@ -40,11 +40,19 @@ same-length-4 c = search needs
 same-length-5 : tie.Need-same-length-5
 same-length-5 c = search needs
 
+-- ---- places: where the solver was called, and where the costs were read
+
+abbrev solved : tie.After-column-prices → tie.After-solve-assignment
+solved c = c .before .before .before .before .before .before .before
+
+abbrev read : tie.After-solve-assignment-arg5 → tie.After-decode
+read c = c .before .before .before .before .before .before .before
+
 returns : tie.Need-returns
 returns c =
-    let solved = c .before .before .before .before .before .before .before .solve-assignment in
-    let read = c .before .before .before .before .before .before .before .before .before .before .before .before .before .before .before in
-    read-promise _ _ _ _ _ _ _ (read .before .before .cells-to-read .ensures) (read .decode .ensures) (solved .ensures)
+    let call = solved c in
+    let costs = read (call .before) in
+    read-promise _ _ _ _ _ _ _ (costs .before .before .cells-to-read .ensures) (costs .decode .ensures) (call .solve-assignment .ensures)
 
 pub serbihun-solve-spec : {M : Type 1} → statement M
 serbihun-solve-spec =
