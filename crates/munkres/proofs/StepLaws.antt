@@ -21,17 +21,17 @@ module _ (n : ℕ) (ok : ℕ → ℕ → Bool) (working : List ℤ) (r : Run) wh
   i₀ : ℕ
   i₀ = zero-in-column n ok working (r .rows) (r .columns) j₀
 
-  pub record Found (i j : ℕ) : Type 0 where
+  pub record FoundZero (i j : ℕ) : Type 0 where
     pub row : i ≡ zero-in-column n ok working (r .rows) (r .columns) j
     pub column : j ≡ zero-column n ok working (r .rows) (r .columns)
     pub row-below : i < n
     pub column-below : j < n
 
-  pub found-at : {i j : ℕ} → found-zero n ok working (r .rows) (r .columns) ≡ At i j → Found i j
+  pub found-at : {i j : ℕ} → found-zero n ok working (r .rows) (r .columns) ≡ At i j → FoundZero i j
   unfolding found-zero j₀ i₀
   found-at {i} {j} e = go (ltb j₀ n) refl e
     where
-      go : (b : Bool) → ltb j₀ n ≡ b → cond b (At i₀ j₀) Nothing ≡ At i j → Found i j
+      go : (b : Bool) → ltb j₀ n ≡ b → cond b (At i₀ j₀) Nothing ≡ At i j → FoundZero i j
       go true t q =
           let h : j₀ < n = ltb→lt _ n (rw t tt) in
           let ei : i₀ ≡ i = cc in
@@ -48,12 +48,12 @@ module _ (n : ℕ) (ok : ℕ → ℕ → Bool) (working : List ℤ) (r : Run) wh
       go false t q = t
 
   module _ (marks : List ℕ) {run : Run} where
-    pub step4-covers : (i j s : ℕ) → Found i j → s ≡ star-in-row n (set marks (i * n + j) 2) i → s < n → run ≡ S.covering i s r
+    pub step4-covers : (i j s : ℕ) → FoundZero i j → s ≡ star-in-row n (set marks (i * n + j) 2) i → s < n → run ≡ S.covering i s r
         → _≡_ {A = Run × List ℕ} (run, set marks (i * n + j) 2) (step4 n ok working r marks)
     unfolding step4
     step4-covers i j s f es h e = rw (e, ← f .column, ← f .row, ← es, lt-ltb j n (f .column-below), lt-ltb s n h)
 
-    pub step4-reaches : (i j s : ℕ) → Found i j → s ≡ star-in-row n (set marks (i * n + j) 2) i → n ≤ s → run ≡ S.reaching i j r
+    pub step4-reaches : (i j s : ℕ) → FoundZero i j → s ≡ star-in-row n (set marks (i * n + j) 2) i → n ≤ s → run ≡ S.reaching i j r
         → _≡_ {A = Run × List ℕ} (run, set marks (i * n + j) 2) (step4 n ok working r marks)
     unfolding step4
     step4-reaches i j s f es h e = rw (e, ← f .column, ← f .row, ← es, lt-ltb j n (f .column-below), le-ltb s n h)

@@ -42,16 +42,16 @@ pub record Flipped (n : ℕ) (Q : ℕ → ℕ → Type 0) (star row : ℕ → �
 module _ (n : ℕ) (prime time row₀ : ℕ → ℕ)
     (chain : (i : ℕ) → i < n → prime i < n → row₀ (prime i) < n → (prime (row₀ (prime i)) < n) × (time (row₀ (prime i)) < time i)) where
   -- the walk has come to row r: r is set apart, and the columns that are still to come have the stars that they began with
-  pub record Walk (star row : ℕ → ℕ) (r : ℕ) : Type 0 where
+  pub record PathWalk (star row : ℕ → ℕ) (r : ℕ) : Type 0 where
     pub below : r < n
     pub primed : prime r < n
     pub apart : Apart n star row r
     pub same : (i : ℕ) → i < n → prime i < n → time i ≤ time r → row (prime i) ≡ row₀ (prime i)
 
-  pub walk-start : (star : ℕ → ℕ) (r : ℕ) → r < n → prime r < n → n ≤ star r → Matching n star row₀ → Walk star row₀ r
+  pub walk-start : (star : ℕ → ℕ) (r : ℕ) → r < n → prime r < n → n ≤ star r → Matching n star row₀ → PathWalk star row₀ r
   walk-start star r hr hp none m = record { below = hr; primed = hp; apart = starless n star row₀ r none m; same = λ i hi pi le. refl }
 
-  module _ {star row : ℕ → ℕ} {r : ℕ} (w : Walk star row r) where
+  module _ {star row : ℕ → ℕ} {r : ℕ} (w : PathWalk star row r) where
     next : Apart n (put star r (prime r)) (put row (prime r) r) (row₀ (prime r))
     next = rw (w .same r w.below w.primed (omega arith)) at (moved n star row r (prime r) w.below w.primed w.apart)
 
@@ -62,7 +62,7 @@ module _ (n : ℕ) (prime time row₀ : ℕ → ℕ)
       pub earlier : (prime (row₀ (prime r)) < n) × (time (row₀ (prime r)) < time r)
       earlier = chain r w.below w.primed h
 
-      pub walk-on : Walk (put star r (prime r)) (put row (prime r) r) (row₀ (prime r))
+      pub walk-on : PathWalk (put star r (prime r)) (put row (prime r) r) (row₀ (prime r))
       walk-on = record {
         below = h;
         primed = earlier .0;
@@ -80,7 +80,7 @@ module _ (n : ℕ) (prime time row₀ : ℕ → ℕ)
           put-off star r (prime r) (row₀ (prime r)) (λ q. omega (arith, ap time q, earlier .1)) ∙ ap star (sym e) ∙ b .1
 
   module _ (Q : ℕ → ℕ → Type 0) (good : (i : ℕ) → i < n → prime i < n → Q i (prime i)) where
-    flip-from : (k : ℕ) (star row : ℕ → ℕ) (r : ℕ) → time r < k → Walk star row r → ((i : ℕ) → i < n → star i < n → Q i (star i))
+    flip-from : (k : ℕ) (star row : ℕ → ℕ) (r : ℕ) → time r < k → PathWalk star row r → ((i : ℕ) → i < n → star i < n → Q i (star i))
         → Flipped n Q star row r (starred prime star (on-path prime n row₀ k r)) (rowed prime row (on-path prime n row₀ k r))
     unfolding on-path starred rowed
     flip-from zero star row r l w q = absurd (omega arith)

@@ -14,7 +14,7 @@ use Rattle.lines.specs.Put.{put}
 use Rattle.lines.proofs.Puts.{put-at}
 use Rattle.steps.specs.Going.{Ends, Matching, Shows}
 use Rattle.steps.specs.Steps.{star-in-column, prime-in-row, path, flip}
-use Rattle.steps.proofs.Flip.{on-path, starred, Walk, walk-on, earlier, star-next}
+use Rattle.steps.proofs.Flip.{on-path, starred, PathWalk, walk-on, earlier, star-next}
 use Rattle.steps.proofs.Marks.{mark-star, mark-prime, show-starred, show-unstarred, find-row, find-prime}
 
 -- ---- the path by what the searches find
@@ -94,7 +94,7 @@ module _ {n : ℕ} {star₀ prime : ℕ → ℕ} {marks₀ : List ℕ} (shown : 
   )
 
   -- flipping the places is moving the rows to their primes
-  pub show-flip : (k : ℕ) (star row : ℕ → ℕ) (r : ℕ) (marks : List ℕ) → time r < k → Walk n prime time row₀ chain star row r → Shows n (put star r n) prime marks
+  pub show-flip : (k : ℕ) (star row : ℕ → ℕ) (r : ℕ) (marks : List ℕ) → time r < k → PathWalk n prime time row₀ chain star row r → Shows n (put star r n) prime marks
       → Shows n (starred prime star (on-path prime n row₀ k r)) prime (flip n marks (path n marks₀ k r (prime r)))
   unfolding on-path starred flip
   show-flip zero star row r marks l w s = absurd (omega arith)

@@ -56,7 +56,7 @@ module _ (n : ℕ) (ok : ℕ → ℕ → Bool) {working : List ℤ} {marks : Lis
 -- ---- the counts of an answer are the turns on the way to it
 
 module _ (limit : ℕ) (t : Task) (before : Buffers) where
-  pub record Turned (a : Answer) (k : ℕ) : Type 0 where
+  pub record CountsTurns (a : Answer) (k : ℕ) : Type 0 where
     pub adjustments : a .adjustments ≡ turns (t .n) (allowed t) (t .budget) adjusts k (start (t .n) (allowed t) (cost t))
     pub primed : a .primes ≡ turns (t .n) (allowed t) (t .budget) primes k (start (t .n) (allowed t) (cost t))
     pub augmentations : a .augmentations ≡ turns (t .n) (allowed t) (t .budget) augments k (start (t .n) (allowed t) (cost t))
@@ -68,7 +68,7 @@ module _ (limit : ℕ) (t : Task) (before : Buffers) where
   returned-counts m no-pairing q = rw (← q) (refl, refl, refl)
   returned-counts m unfinished q = rw (← q) (refl, refl, refl)
 
-  pub counts-are-turns : {a : Answer} {after : Buffers} → verdict t limit before ≡ accepted → (o : Outcome limit t before a after) → Turned a (o .count)
+  pub counts-are-turns : {a : Answer} {after : Buffers} → verdict t limit before ≡ accepted → (o : Outcome limit t before a after) → CountsTurns a (o .count)
   unfolding start
   counts-are-turns {a} {after} v o =
       let r = returned-is t before (o .count) (sym (ap (judged t before (o .count)) v) ∙ o .exact) in

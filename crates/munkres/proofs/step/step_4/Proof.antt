@@ -6,7 +6,7 @@ use lib.ListN.{length-set}
 use Rattle.lines.proofs.Squares.{place-lt}
 use Rattle.steps.specs.Lent.{allows}
 use Rattle.ground.specs.View.{view}
-use Rattle.munkres.proofs.StepLaws.{Found, found-at, step4-covers, step4-reaches, step4-none}
+use Rattle.munkres.proofs.StepLaws.{FoundZero, found-at, step4-covers, step4-reaches, step4-none}
 use borrow.Author.Needs.{needs}
 use Rattle.munkres.proofs.step.step_4.Statement.{statement}
 use Rattle.munkres.proofs.step.step_4.Tie as tie
@@ -24,7 +24,7 @@ abbrev start : tie.After-known-told → tie.Start
 start c = c .before .before .before .before .before .before
 
 found : (c : tie.After-known-told) → let a = start c .args in let at = c .before .found .given .0 in
-    Found (a .n) (allows (a .n) (a .mask .now)) (a .working .now) (view (a .run)) (at .0) (at .1 .0)
+    FoundZero (a .n) (allows (a .n) (a .mask .now)) (a .working .now) (view (a .run)) (at .0) (at .1 .0)
 found c =
     let searched = c .before .before .before in
     found-at _ _ _ (view (start c .args .run)) (sym (searched .find-uncovered-cell-column-row-order .ensures) ∙ c .before .found .given .1)
