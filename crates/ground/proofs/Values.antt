@@ -11,7 +11,8 @@ use lib.Signed.{ltZ}
 use Rattle.lines.specs.First.{any, least-on, least}
 use Rattle.lines.proofs.Firsts.{any-is}
 use Rattle.lines.proofs.Leasts.{least-is}
-use Rattle.ground.specs.Least.{lesser-of, least-from}
+use Rattle.steps.specs.Steps.{row-price}
+use Rattle.ground.specs.Least.{lesser-of, least-from, value-or-zero}
 use Rattle.ground.specs.declared.prices.Least.{Least}
 use Rattle.ground.specs.declared.prices.Least.the-variants.{Value, Nothing}
 
@@ -89,3 +90,12 @@ value-any b f n t e =
     let a = any-is b n t in
     let h = value-none b f n e in
     omega (arith, least-is b f n .low (a .0) (a .1) (a .2) .0)
+
+-- the price of a row that allows a cell
+pub priced : (n : ℕ) (ok : ℕ → ℕ → Bool) (cost : ℕ → ℕ → ℤ) (i : ℕ) → T (any (ok i) n) → value-or-zero (least-from Nothing (ok i) (cost i) n) ≡ row-price n ok cost i
+unfolding value-or-zero row-price
+priced n ok cost i t = go (least-from Nothing (ok i) (cost i) n) refl
+  where
+    go : (best : Least) → least-from Nothing (ok i) (cost i) n ≡ best → value-or-zero best ≡ cost i (least (ok i) (cost i) n)
+    go (Value z) e = value-found _ _ n z e .1
+    go Nothing e = absurd (value-any _ _ n t e)

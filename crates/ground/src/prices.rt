@@ -1,16 +1,14 @@
 // Prices: the least allowed cost of a row, and the prices of a set of lines that change alike.
 ghost use mathlib.Core.Path.{_≡_};
 ghost use Prim.Native.Nat.{_<_};
-ghost use lib.Dec.{T};
 ghost use lib.IntN.{ℤ, pos};
 ghost use lib.ListN.{length};
-ghost use Rattle.lines.specs.First.{any};
 ghost use Rattle.lines.specs.Square.{table};
 ghost use Rattle.lines.specs.Bounds.{Within};
 ghost use Rattle.steps.specs.Lent.{allows, cost-at};
-ghost use Rattle.steps.specs.Steps.{row-price, lowered, raised};
+ghost use Rattle.steps.specs.Steps.{lowered, raised};
 ghost use Rattle.ground.specs.Prices.{InRow, Shifts, AdjustsPrices, shifted};
-ghost use Rattle.ground.specs.Least.{lesser-of, least-from};
+ghost use Rattle.ground.specs.Least.{lesser-of, least-from, value-or-zero};
 use crate::sets;
 
 pub enum Least {
@@ -49,10 +47,10 @@ pub fn min_of_row(n: usize, costs: &[i32], mask: &[u8], row: usize) -> Least
     least
 }
 
-// The row's price; 0 for a row without an allowed cell, of which there is none.
+// The row's price; 0 for a row without an allowed cell.
 pub fn price_of_row(n: usize, costs: &[i32], mask: &[u8], row: usize) -> i64
-    requires { ⌜ InRow n (now costs) (now mask) row × T (any (allows n (now mask) row) n) ⌝ }
-    ensures { λ r. ⌜ (r ≡ row-price n (allows n (now (mask .entry))) (cost-at n (now (costs .entry))) row) × Within 2147483648 r ⌝ }
+    requires { ⌜ InRow n (now costs) (now mask) row ⌝ }
+    ensures { λ r. ⌜ (r ≡ value-or-zero (least-from Least.Nothing (allows n (now (mask .entry)) row) (cost-at n (now (costs .entry)) row) n)) × Within 2147483648 r ⌝ }
 {
     match min_of_row(n, costs, mask, row) {
         Least::Value(price) => price,

@@ -1,9 +1,9 @@
--- `prices::price_of_row` meets its contract: the least allowed cost is the cost at the place that the definition searches for. Assumes nothing.
+-- `prices::price_of_row` meets its contract: the least allowed cost, or 0. Assumes nothing.
 use borrow.Author.Needs.{needs}
-use mathlib.Core.Path.{sym, _∙_}
-use Rattle.steps.specs.Steps.{row-price}
+use mathlib.Core.Path.{refl, sym, _∙_}
 use Rattle.ground.proofs.Wide.{back64}
-use Rattle.ground.proofs.Values.{value-found, value-any}
+use Rattle.lines.proofs.Signed.{within-zero}
+use Rattle.ground.specs.Least.{value-or-zero}
 use Rattle.ground.proofs.prices.price_of_row.Statement.{statement}
 use Rattle.ground.proofs.prices.price_of_row.Tie as tie
 
@@ -17,14 +17,15 @@ enum-told : tie.Need-enum-told
 enum-told c = search needs
 
 returns : tie.Need-returns
-unfolding row-price
+unfolding value-or-zero
 returns c =
     let m = c .before .before .before .min-of-row .ensures in
     let p = c .before .price .given in
-    rw (back64 (p .0 .0) (c .known-told .given .0 .1)) (value-found _ _ _ _ (sym (m .0) ∙ p .1) .1, m .1 _ (p .1))
+    rw (back64 (p .0 .0) (c .known-told .given .0 .1)) (rw (sym (m .0) ∙ p .1) refl, m .1 _ (p .1))
 
 returns-2 : tie.Need-returns-2
-returns-2 c = absurd (value-any _ _ _ (c .before .before .before .before .pre .1) (sym (c .before .before .min-of-row .ensures .0) ∙ c .enum-told .given .1))
+unfolding value-or-zero
+returns-2 c = (rw (sym (c .before .before .min-of-row .ensures .0) ∙ c .enum-told .given .1) refl, within-zero _)
 
 pub price-of-row-spec : {M : Type 1} → statement M
 price-of-row-spec =

@@ -9,6 +9,7 @@ use Rattle.lines.proofs.Rows.{RowsPassed, rows-none, rows-more, rows-filled}
 use Rattle.steps.specs.Lent.{allows, cost-at}
 use Rattle.steps.specs.Steps.{row-price, excess}
 use Rattle.ground.proofs.Wide.{back64}
+use Rattle.ground.proofs.Values.{priced}
 use Rattle.munkres.proofs.weight_matrix.sub_min_of_each_row.Statement.{statement}
 use Rattle.munkres.proofs.weight_matrix.sub_min_of_each_row.Tie as tie
 
@@ -26,7 +27,7 @@ loop-holds c = (search needs, rows-none _ _ _ _, passed-none _ _ _)
 price-of-row-requires : tie.Need-price-of-row-requires Inv-loop μ-loop
 price-of-row-requires c κs =
     let pre = c .before .before .before .pre in
-    (record { costs-square = pre .0; mask-square = pre .1; below = search needs }, pre .4 _ (omega arith))
+    record { costs-square = pre .0; mask-square = pre .1; below = search needs }
 
 mul-price : tie.Need-mul-price Inv-loop μ-loop
 mul-price c = search needs
@@ -57,7 +58,7 @@ loop-again c =
     let s = c .before .before .before .before .before .before .before in
     let l = c .before .before .before .before .before .loop in
     let p = c .before .before .before .price-of-row in
-    let e = back64 (p .result) (p .ok) ∙ p .ensures .0 in (
+    let e = back64 (p .result) (p .ok) ∙ p .ensures .0 ∙ priced _ (allows _ _) (cost-at _ _) _ (s .pre .4 _ (omega arith)) in (
       search needs,
       rows-more _ _ _ _ _ _ _ _ (s .pre .2) (omega arith) (λ j x. rw e) (c .before .sub-row .ensures) (l .inv .1),
       passed-store _ _ _ _ _ _ (omega arith) e (l .inv .2),
