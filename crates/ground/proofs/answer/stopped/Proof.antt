@@ -1,5 +1,5 @@
 -- `stopped` meets its contract: what the definition says of a refusal and of a row without allowed cells.
-use mathlib.Core.Path.{refl, ap}
+use mathlib.Core.Path.{ap}
 use native.Mathlib.Omega.{arith}
 use Prim.Native.Nat.{_≤_, _<_}
 use borrow.Author.Needs.{needs}
