@@ -53,13 +53,30 @@ loop-holds c =
 lowest-line-requires : tie.Need-lowest-line-requires Inv-loop μ-loop
 lowest-line-requires c κs = tt
 
-met : (c : tie.After-lowest-line Inv-loop μ-loop) → let a = c .before .before .before .before .before .args in
-    let l = c .before .before .loop in
+-- ---- places: the turn's loop, the start, and the turn's line seen from later places
+
+abbrev turn : tie.After-lowest-line Inv-loop μ-loop → tie.At-loop Inv-loop μ-loop
+turn c = c .before .before
+
+abbrev start : tie.At-loop Inv-loop μ-loop → tie.Start Inv-loop μ-loop
+start c = c .before .before .before
+
+abbrev line : tie.After-less-prices-arg2 Inv-loop μ-loop → tie.After-lowest-line Inv-loop μ-loop
+line c = c .before .before .before
+
+abbrev termed : tie.After-lesser Inv-loop μ-loop → tie.After-less-prices Inv-loop μ-loop
+termed c = c .before
+
+abbrev ended : tie.After-without-lowest Inv-loop μ-loop → tie.After-lesser Inv-loop μ-loop
+ended c = c .before .before
+
+met : (c : tie.After-lowest-line Inv-loop μ-loop) → let a = start (turn c) .args in
+    let l = turn c .loop in
     Met 64 (a .n) (rest (a .n) (a .rows)) (Lowered (a .rows) (Term (a .n) (a .keys .now) (a .row-prices .now) (a .column) (toZ w64 (ofZ w64 (a .price)))) (a .key .now) (l .key) (toZ w64 (l .best)))
     (l .left) (c .lowest-line .result)
-met c =
-    let l = c .before .before in
-    walk-meets 64 (l .before .before .before .pre .word .most) (c .before .loop-test .taken) (c .lowest-line .ensures) (l .loop .inv .1)
+met c = let l = turn c in walk-meets 64 (start l .pre .word .most) (c .before .loop-test .taken) (c .lowest-line .ensures) (l .loop .inv .1)
+
+-- ---- what each place asks
 
 mul-lesser : tie.Need-mul-lesser Inv-loop μ-loop
 mul-lesser c = let h = met c .below in search needs
@@ -84,8 +101,8 @@ shared-slice-copy-out-less-prices-2 c = let h = met (c .before .before) .below i
 
 less-prices-requires : tie.Need-less-prices-requires Inv-loop μ-loop
 less-prices-requires c κs =
-    let h = met (c .before .before .before) .below in
-    let s = c .before .before .before .before .before .before .before .before in
+    let h = met (line c) .below in
+    let s = start (turn (line c)) in
     record {
       entry-within = rw (back64 _ (c .before .less-prices-arg .given)) (s .pre .entry-within _ h);
       row-within = rw (back64 _ (c .less-prices-arg2 .given)) (s .pre .row-within _ h);
@@ -96,10 +113,10 @@ lesser-requires : tie.Need-lesser-requires Inv-loop μ-loop
 lesser-requires c κs = tt
 
 mul-here : tie.Need-mul-here Inv-loop μ-loop
-mul-here c = let h = met (c .before .before .before .before .before) .below in search needs
+mul-here c = let h = met (line (termed c .before)) .below in search needs
 
 slice-set-from-here : tie.Need-slice-set-from-here Inv-loop μ-loop
-slice-set-from-here c = let h = met (c .before .before .before .before .before) .below in search needs
+slice-set-from-here c = let h = met (line (termed c .before)) .below in search needs
 
 lesser-requires-2 : tie.Need-lesser-requires-2 Inv-loop μ-loop
 lesser-requires-2 c κs = tt
@@ -108,23 +125,25 @@ without-lowest-requires : tie.Need-without-lowest-requires Inv-loop μ-loop
 without-lowest-requires c κs = search needs
 
 loop-less : tie.Need-loop-less Inv-loop μ-loop
-loop-less c = met (c .before .before .before .before .before .before .before) .less _ (c .without-lowest .ensures)
+loop-less c = met (line (termed (ended c) .before)) .less _ (c .without-lowest .ensures)
 
 loop-again : tie.Need-loop-again Inv-loop μ-loop
 loop-again c =
-    let t = c .before .before .before .before .before .before .before in
-    let a = t .before .before .before .before .before .args in
-    let l = t .before .before .loop in
+    let here = ended c in
+    let term = termed here in
+    let price = term .before in
+    let t = line price in
+    let a = start (turn t) .args in
+    let l = turn t .loop in
     let m = met t in
-    let h = m .below in
-    let term = Term (a .n) (a .keys .now) (a .row-prices .now) (a .column) (toZ w64 (ofZ w64 (a .price))) (t .lowest-line .result) in
-    let e0 : c .before .before .before .less-prices .result ≡ term = c .before .before .before .less-prices .ensures ∙ rw (back64 _ (c .before .before .before .before .before .less-prices-arg .given), back64 _ (c .before .before .before .before .less-prices-arg2 .given)) in
-    let e1 : toZ w64 (ofZ w64 (c .before .before .lesser .result)) ≡ lesser (getD (l .key) (t .lowest-line .result) (pos 0)) term = back64 _ (c .before .before .lesser .ok) ∙ c .before .before .lesser .ensures
-    ∙ rw (back64 _ (c .before .before .before .before .before .before .lesser-arg .given), back64 _ (c .before .before .before .less-prices .ok), e0) in
+    let new = Term (a .n) (a .keys .now) (a .row-prices .now) (a .column) (toZ w64 (ofZ w64 (a .price))) (t .lowest-line .result) in
+    let e0 : toZ w64 (ofZ w64 (term .less-prices .result)) ≡ new = back64 _ (term .less-prices .ok) ∙ term .less-prices .ensures ∙ rw (back64 _ (price .before .less-prices-arg .given), back64 _ (price .less-prices-arg2 .given)) in
+    let e1 : toZ w64 (ofZ w64 (here .lesser .result)) ≡ lesser (getD (l .key) (t .lowest-line .result) (pos 0)) new = back64 _ (here .lesser .ok) ∙ here .lesser .ensures
+    ∙ rw (back64 _ (price .before .before .lesser-arg .given), e0) in
     let e2 = back64 _ (c .before .lesser2 .ok) ∙ c .before .lesser2 .ensures in (
       l .inv .0,
       m .on _ _ (c .without-lowest .ensures)
-          (lowered-store _ _ _ _ _ _ (lacked _ _ _ h (m .member)) (omega (arith, m .kept .passed .long)) e1 e2 (m .kept))
+          (lowered-store _ _ _ _ _ _ (lacked _ _ _ (m .below) (m .member)) (omega (arith, m .below, m .kept .passed .long)) e1 e2 (m .kept))
           (covered _ _ _ _ _ _),
     )
 

@@ -54,13 +54,30 @@ loop-holds c =
 lowest-line-requires : tie.Need-lowest-line-requires Inv-loop μ-loop
 lowest-line-requires c κs = search needs
 
-met : (c : tie.After-lowest-line Inv-loop μ-loop) → let a = c .before .before .before .before .before .before .before .before .args in
-    let l = c .before .before .loop in
+-- ---- places: the turn's loop, the start, and the turn's column seen from later places
+
+abbrev turn : tie.After-lowest-line Inv-loop μ-loop → tie.At-loop Inv-loop μ-loop
+turn c = c .before .before
+
+abbrev emptied : tie.At-loop Inv-loop μ-loop → tie.After-key Inv-loop μ-loop
+emptied c = c .before .before .before
+
+abbrev start : tie.At-loop Inv-loop μ-loop → tie.Start Inv-loop μ-loop
+start c = emptied c .before .before .before
+
+abbrev column : tie.After-lower-arg2 Inv-loop μ-loop → tie.After-lowest-line Inv-loop μ-loop
+column c = c .before .before
+
+abbrev lowered : tie.After-without-lowest Inv-loop μ-loop → tie.After-lower Inv-loop μ-loop
+lowered c = c .before .before
+
+met : (c : tie.After-lowest-line Inv-loop μ-loop) → let a = start (turn c) .args in
+    let l = turn c .loop in
     Met 64 (a .n) (rest (a .n) (a .columns)) (Opening (a .n) (a .columns) (a .keys .now) (a .row-prices .now) (a .column-prices .now) (l .key) (toZ w64 (l .best)))
     (l .left) (c .lowest-line .result)
-met c =
-    let l = c .before .before in
-    walk-meets 64 (l .before .before .before .before .before .before .pre .0 .word .most) (c .before .loop-test .taken) (c .lowest-line .ensures) (l .loop .inv .1)
+met c = let l = turn c in walk-meets 64 (start l .pre .0 .word .most) (c .before .loop-test .taken) (c .lowest-line .ensures) (l .loop .inv .1)
+
+-- ---- what each place asks
 
 mul-lower : tie.Need-mul-lower Inv-loop μ-loop
 mul-lower c = let h = met c .below in search needs
@@ -70,15 +87,15 @@ shared-slice-copy-out-lower c = let h = met c .below in search needs
 
 lower-requires : tie.Need-lower-requires Inv-loop μ-loop
 lower-requires c κs =
-    let s = c .before .before .before .before .before .before .before .before .before .before in
-    let l = c .before .before .before .before .loop in
-    let h = met (c .before .before) .below in
+    let l = turn (column c) in
+    let s = start l in
+    let h = met (column c) .below in
     let safe = s .pre .0 in
     record {
       word = safe .word;
       keys-square = safe .keys-square;
       row-lines = safe .row-lines;
-      key-long = omega (arith, l .inv .0, c .before .before .before .before .before .before .before .key .given, s .pre .1);
+      key-long = omega (arith, l .loop .inv .0, emptied l .key .given, s .pre .1);
       below = h;
       price-within = rw (back64 _ (c .before .lower-arg .given)) (wider (safe .column-within _ h));
       row-within = λ i hi. wider (safe .row-within i hi);
@@ -89,25 +106,24 @@ without-lowest-requires : tie.Need-without-lowest-requires Inv-loop μ-loop
 without-lowest-requires c κs = search needs
 
 loop-less : tie.Need-loop-less Inv-loop μ-loop
-loop-less c = met (c .before .before .before .before .before) .less _ (c .without-lowest .ensures)
+loop-less c = met (column (lowered c .before)) .less _ (c .without-lowest .ensures)
 
 loop-again : tie.Need-loop-again Inv-loop μ-loop
 loop-again c =
-    let t = c .before .before .before .before .before in
-    let l = t .before .before .loop in
+    let lower = lowered c in
+    let t = column (lower .before) in
+    let l = turn t in
     let m = met t in
-    let h = m .below in
-    let a = t .before .before .before .before .before .before .before .before .args in
-    let p = back64 (getD (a .column-prices .now) (t .lowest-line .result) (pos 0)) (c .before .before .before .before .lower-arg .given) in
-    let e = rw p at (c .before .before .lower .ensures) in (
-      c .before .key2 .given ∙ l .inv .0,
+    let p = back64 (getD (start l .args .column-prices .now) (t .lowest-line .result) (pos 0)) (lower .before .before .lower-arg .given) in
+    let e = rw p at (lower .lower .ensures) in (
+      c .before .key2 .given ∙ l .loop .inv .0,
       m .on _ _ (c .without-lowest .ensures)
-          (opening-more _ _ _ _ _ _ _ _ h (lacked _ _ _ h (m .member)) (e .0) (back64 _ (c .before .before .lower .ok) ∙ e .1) (m .kept))
+          (opening-more _ _ _ _ _ _ _ _ (m .below) (lacked _ _ _ (m .below) (m .member)) (e .0) (back64 _ (lower .lower .ok) ∙ e .1) (m .kept))
           (covered _ _ _ _ _ _ _),
     )
 
 same-length : tie.Need-same-length Inv-loop μ-loop
-same-length c = c .before .loop .inv .0 ∙ c .before .before .before .before .key .given
+same-length c = let l = c .before in l .loop .inv .0 ∙ emptied l .key .given
 
 returns : tie.Need-returns Inv-loop μ-loop
 returns c = opening-all _ _ _ _ _ (walk-end (c .loop-test .left) (c .before .loop .inv .1))
