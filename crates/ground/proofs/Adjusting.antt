@@ -1,16 +1,18 @@
 -- Step 6 as a solver leaves it: by the place of the least value, with prices of a set of lines that change alike.
-use mathlib.Core.Path.{_≡_, refl, sym, ap, _∙_}
+use mathlib.Core.Path.{_≡_, sym, _∙_}
 use mathlib.Core.Logic.{_≢_}
-use mathlib.Core.Bool.{Bool, true, false, not, cond}
+use mathlib.Core.Bool.{Bool, true, false}
 use mathlib.Core.List.{List}
-use Prim.Native.Nat.{ℕ, _*_, _≤_, _<_}
+use Prim.Native.Nat.{ℕ, _*_, _%_, _^_, _≤_, _<_}
 use native.Mathlib.Omega.{arith}
 use borrow.Author.Tests.{lt-ltb, le-ltb, eq-eqb, ne-eqb}
-use lib.IntN.{ℤ, pos, negℤ, _+ℤ_}
+use lib.IntN.{ℤ, pos, negℤ}
 use lib.ListN.{length, getD}
 use lib.Seq.{ext-getD}
 use Rattle.lines.specs.Sets.{has, rest}
-use Rattle.lines.proofs.Sets.{has-rest}
+use Rattle.lines.specs.Square.{each}
+use Rattle.lines.proofs.Tests.{by-cases}
+use Rattle.lines.proofs.Walks.{alike, unlike}
 use Rattle.lines.proofs.Squares.{length-each, each-at}
 use Rattle.steps.specs.Steps as S
 use Rattle.steps.specs.Steps.{Run, lowest, followed, lowered, raised, step6}
@@ -36,20 +38,28 @@ module _ (n : ℕ) (ok : ℕ → ℕ → Bool) (working : List ℤ) (r : Run) (b
     step6-adjusts z working′ row′ column′ ez ne ew er ec e =
         rw (e, ew, er, ec, lt-ltb (lowest n ok working (r .rows) (r .columns)) (n * n) h, ne-eqb _ budget ne, ez)
 
--- ---- prices: those of the covered rows fall, those of the uncovered columns rise
+-- ---- prices of a set of lines, the covered ones or the others
 
-pub lowered-shifted : (z : ℤ) (rows : ℕ) (prices : List ℤ) → shifted (negℤ z) rows prices ≡ lowered z rows prices
-unfolding shifted lowered
-lowered-shifted z rows prices = refl
+-- the same everywhere below the length
+each-same : (f g : ℕ → ℤ → ℤ) (xs : List ℤ) → ((i : ℕ) (x : ℤ) → i < length xs → f i x ≡ g i x) → each f xs ≡ each g xs
+each-same f g xs e =
+    ext-getD (pos 0) (each f xs) (each g xs) (length-each f xs ∙ sym (length-each g xs)) (λ i h.
+    let l : i < length xs = rw (length-each f xs) at h in
+    each-at (pos 0) f xs i l ∙ e i _ l ∙ sym (each-at (pos 0) g xs i l))
 
-pub raised-shifted : (n : ℕ) (z : ℤ) (columns lines : ℕ) (prices : List ℤ) → lines ≡ rest n columns → length prices ≡ n
-    → shifted z lines prices ≡ raised z columns prices
-unfolding shifted raised
-raised-shifted n z columns lines prices q e =
-    ext-getD (pos 0) _ _ (length-each _ prices ∙ sym (length-each _ prices)) (λ j h.
-    let l : j < length prices = rw (length-each _ prices) at h in
-    each-at (pos 0) _ prices j l ∙ turned (has columns j) (has lines j) _ (ap (λ s. has s j) q ∙ has-rest n columns j (omega arith)) ∙ sym (each-at (pos 0) _ prices j l))
-  where
-    turned : (c d : Bool) (p : ℤ) → d ≡ not c → cond d (p +ℤ z) p ≡ cond c p (p +ℤ z)
-    turned true d p q = rw q
-    turned false d p q = rw q
+module _ (n s lines : ℕ) (z : ℤ) (prices : List ℤ) (size : length prices ≡ n) where
+  -- those of the covered rows fall
+  pub lowered-shifted : lines ≡ s % 2 ^ n → shifted (negℤ z) lines prices ≡ lowered z s prices
+  unfolding shifted lowered
+  lowered-shifted e =
+      each-same _ _ prices (λ i p h. by-cases (has lines i)
+      (λ y. rw (y, alike n s true i (omega arith) (rw e at y)))
+      (λ y. rw (y, unlike n s true i (omega arith) (rw e at y))))
+
+  -- those of the uncovered columns rise
+  pub raised-shifted : lines ≡ rest n s → shifted z lines prices ≡ raised z s prices
+  unfolding shifted raised
+  raised-shifted e =
+      each-same _ _ prices (λ i p h. by-cases (has lines i)
+      (λ y. rw (y, alike n s false i (omega arith) (rw e at y)))
+      (λ y. rw (y, unlike n s false i (omega arith) (rw e at y))))

@@ -2,7 +2,7 @@
 use mathlib.Core.Path.{_≡_}
 use mathlib.Core.Bool.{cond}
 use mathlib.Core.List.{List}
-use Prim.Native.Nat.{ℕ, _≤_, _<_}
+use Prim.Native.Nat.{ℕ, _^_, _≤_, _<_}
 use lib.IntN.{ℤ, negℤ, _+ℤ_}
 use lib.ListN.{length}
 use mir.Syntax.{w64}
@@ -24,6 +24,7 @@ shifted z lines = each (λ i p. cond (has lines i) (p +ℤ z) p)
 -- a set of at most 64 lines, whose changed prices fit 64 bits
 pub record Shifts (lines : ℕ) (change : ℤ) (prices : List ℤ) : Type 0 where
   pub most : length prices ≤ 64
+  pub within : lines < 2 ^ length prices
   pub values : Fit64 (shifted change lines prices)
 
 -- an adjustment, after which all prices fit

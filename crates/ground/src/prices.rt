@@ -73,12 +73,11 @@ fn shift_prices(lines: u64, change: i64, prices: &mut [i64])
     requires { ⌜ Shifts lines change (now prices) ⌝ }
     ensures { λ _. ⌜ now (prices .exit) ≡ shifted change lines (now (prices .entry)) ⌝ }
 {
-    let mut line = 0;
-    while line < prices.len() {
-        if sets::is_covered(lines, line) {
-            prices[line] = prices[line] + change;
-        }
-        line += 1;
+    let mut left = lines;
+    while left != 0 {
+        let line = sets::lowest_line(left);
+        prices[line] = prices[line] + change;
+        left = sets::without_lowest(left);
     }
 }
 
@@ -94,6 +93,6 @@ pub fn adjust_prices(
     requires { ⌜ AdjustsPrices n rows columns change (now «row_prices») (now «column_prices») ⌝ }
     ensures { λ _. ⌜ (now («row_prices» .exit) ≡ lowered change rows (now («row_prices» .entry))) × (now («column_prices» .exit) ≡ raised change columns (now («column_prices» .entry))) ⌝ }
 {
-    shift_prices(rows, -change, row_prices);
-    shift_prices(sets::uncovered_lines(n, columns), change, column_prices);
+    shift_prices(sets::lines_alike(n, rows, true), -change, row_prices);
+    shift_prices(sets::lines_alike(n, columns, false), change, column_prices);
 }

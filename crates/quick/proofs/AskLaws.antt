@@ -1,0 +1,92 @@
+-- What each step asks of the state, from what is held.
+use mathlib.Core.Path.{_≡_, sym, ap, subst, _∙_}
+use mathlib.Core.Logic.{_≢_}
+use mathlib.Core.Bool.{true}
+use mathlib.Core.List.{List}
+use Prim.Native.Nat.{ℕ}
+use lib.IntN.{ℤ, pos, _-ℤ_}
+use lib.Signed.{ltZ}
+use Rattle.lines.proofs.Signed.{within-zero}
+use Rattle.steps.specs.Lent.{allows}
+use Rattle.steps.specs.Steps as S
+use Rattle.steps.specs.Steps.{Machine}
+use Rattle.ground.specs.View.{view, view-next}
+use Rattle.ground.specs.Good.{Adjusts}
+use Rattle.ground.specs.declared.run.Next.{Next}
+use Rattle.ground.specs.declared.run.Next.the-variants.{Step3, Step4, Step5, Step6}
+use Rattle.ground.proofs.GoodLaws.{more-primes, more-augmentations, adjusts}
+use Rattle.quick.specs.Keys.{limit, value-of}
+use Rattle.quick.specs.Ways.{change}
+use Rattle.quick.specs.Asks.{ForStep3, ForStep4, ForStep5, ForStep6}
+use Rattle.quick.specs.Shown.{Searching, Held, shown}
+use Rattle.quick.specs.declared.step.State.{State}
+use Rattle.quick.proofs.Choose.{some-open, least-found}
+use Rattle.quick.proofs.HeldLaws.{above, safe, safe-during, names}
+use Rattle.quick.proofs.StepHeld.{walks}
+
+module _ (n : ℕ) (costs : List ℤ) (mask : List ℕ) (budget : ℕ) (s : State) (keys row-prices column-prices : List ℤ) (star owner prime : List ℕ) (key : List ℤ)
+    (h : Held n costs mask budget (shown n costs mask (view (s .run)) row-prices column-prices star prime) (s .risen) (s .best) keys star owner prime key) where
+  abbrev m : Machine
+  m = shown n costs mask (view (s .run)) row-prices column-prices star prime
+
+  searching : (x : Next) → s .run .next ≡ x → Searching (view-next x) n (allows n mask) m (s .risen) (s .best) key
+  searching x e = subst (λ x. Searching (view-next x) n (allows n mask) m (s .risen) (s .best) key) e (h .searching)
+
+  pub asks-3 : s .run .next ≡ Step3 → ForStep3 n keys row-prices column-prices star owner key
+  asks-3 e = record {
+    safe = safe h (pos 0) (within-zero 1099511627776);
+    star-long = h .lines .star-long;
+    owner-long = h .lines .owner-long;
+    key-long = h .key-long;
+  }
+
+  pub asks-4 : s .run .next ≡ Step4 → ForStep4 n s keys row-prices column-prices star prime key
+  asks-4 e =
+      let d = searching Step4 e in
+      record {
+        safe = safe-during h d;
+        names = names h d;
+        more = more-primes (h .kept) (ap view-next e);
+        star-long = h .lines .star-long;
+        prime-long = h .lines .prime-long;
+        key-long = h .key-long;
+      }
+
+  pub asks-5 : (i j : ℕ) → s .run .next ≡ Step5 i j → ForStep5 n s i j star owner prime
+  asks-5 i j e = record {
+    path = record {
+      follows = walks h i j (ap view-next e);
+      star-long = h .lines .star-long;
+      owner-long = h .lines .owner-long;
+      prime-long = h .lines .prime-long;
+    };
+    more = more-augmentations (h .kept) i j (ap view-next e);
+  }
+
+  -- where step 6 adjusts, the least value is what the key holds less what has risen
+  adjusted : (e : s .run .next ≡ Step6) → ltZ (s .best) limit ≡ true → s .run .adjustments ≢ budget
+      → Adjusts n (allows n mask) (s .run .rows) (s .run .columns) (change s) (m .working) row-prices column-prices
+  adjusted e near ne =
+      let d = searching Step6 e in
+      let b = rw (d .risen-is) at (d .least) in
+      let most = h .frame .word .most in
+      let some = some-open 64 n (allows n mask) limit most (m .working) (s .run .rows) (s .run .columns) (d .rise) (above h) b near in
+      let found = least-found 64 n (allows n mask) limit most (m .working) (s .run .rows) (s .run .columns) (d .rise) (above h) b near in
+      rw (found ∙ ap (λ x. value-of 64 (s .best) -ℤ x) (sym (d .risen-is))) at (adjusts (h .kept) (ap view-next e) ne some)
+
+  pub asks-6 : s .run .next ≡ Step6 → ForStep6 n budget s row-prices column-prices
+  asks-6 e = record {
+    spare = h .kept .spare;
+    whole = λ near. names h (searching Step6 e) near .0;
+    fits = λ near ne. adjusted e near ne .change;
+    adjusts = λ near ne.
+        let a = adjusted e near ne in
+        record {
+          word = h .frame .word;
+          row-lines = h .kept .going .shape .row-prices;
+          column-lines = h .kept .going .shape .column-prices;
+          back = a .back;
+          lower = a .lower;
+          higher = a .higher;
+        };
+  }

@@ -1,0 +1,326 @@
+-- One step of the code against one step of the machine: each way that the code goes leaves what the machine's step leaves.
+use mathlib.Core.Path.{_≡_, refl, sym, ap, _∙_}
+use mathlib.Core.Logic.{_≢_}
+use mathlib.Core.Bool.{Bool, true, false, not, cond}
+use mathlib.Core.List.{List}
+use Prim.Native.Nat.{ℕ, _+_, _*_, _≤_, _<_}
+use native.Mathlib.Omega.{arith}
+use borrow.Author.Tests.{lt-ltb, le-ltb, ltb-false, eq-eqb, ne-eqb}
+use lib.Dec.{T, ltb}
+use lib.IntN.{ℤ, pos, _+ℤ_, _-ℤ_}
+use lib.Signed.{ltZ, _≤ℤ_}
+use lib.ListN.{length, getD, set}
+use Rattle.lines.specs.Count.{count}
+use Rattle.lines.specs.Square.{cell, table}
+use Rattle.lines.specs.Sets.{has, with, those}
+use Rattle.lines.proofs.Tests.{T-false, by-cases}
+use Rattle.lines.proofs.Counts.{count-miss, count-ext}
+use Rattle.lines.proofs.Sets.{ext, has-those, those-lt}
+use Rattle.lines.proofs.Signed.{signed, plus-parts, minus-parts, within-zero}
+use Rattle.steps.specs.Lent.{allows}
+use Rattle.steps.specs.Steps.{Machine, machine, star-in-row, star-in-column, covering, reaching, adjusting, augmenting, to, followed, lowered, raised}
+use Rattle.steps.specs.Going.{Open, OpenZero, Starred, Search, Ready}
+use Rattle.steps.proofs.Adjusted.{raised-at}
+use Rattle.steps.proofs.Search.{begun}
+use Rattle.steps.proofs.Marks.{find-row}
+use Rattle.steps.proofs.Phase.{covers}
+use Rattle.ground.proofs.Arms.{arm-3, arm-4, arm-5, arm-6}
+use Rattle.ground.proofs.GoodLaws.{sound-at}
+use Rattle.quick.specs.Keys.{limit, pack, value-of, row-of, column-of, lesser, lowered-key, least-key}
+use Rattle.quick.specs.Best.{key-at, Best}
+use Rattle.quick.specs.Ways.{term-at, Opens, flipped, Follows}
+use Rattle.quick.specs.Shown.{Lines, During, Held}
+use Rattle.quick.proofs.Choose.{zero-here, row-named, column-named}
+use Rattle.quick.proofs.Opens.{best-of, keys-covered, keys-opened}
+use Rattle.quick.proofs.OpenColumns.{beyond}
+use Rattle.quick.proofs.Adjusts.{keys-adjusted, best-adjusted}
+use Rattle.quick.proofs.Keyed.{keyed-none, keyed-above, keyed-zero, keyed-blocked, keyed-spent, keyed-adjusts}
+use Rattle.quick.proofs.LineLaws.{lines-primed, same-star, same-owner}
+use Rattle.quick.proofs.PathLaws.{path-follows, lines-flipped}
+use Rattle.quick.proofs.HeldLaws.{above, bounded, risen-small, told-at, shut-at, column-small, held-next}
+use Rattle.steps.specs.Steps as S
+
+module _ {n : ℕ} {costs : List ℤ} {mask : List ℕ} {budget : ℕ} {m : Machine} {risen best : ℤ} {keys : List ℤ} {star owner prime : List ℕ} {key : List ℤ}
+    (h : Held n costs mask budget m risen best keys star owner prime key) where
+  abbrev ok : ℕ → ℕ → Bool
+  ok = allows n mask
+
+  abbrev next : Machine
+  next = S.step n ok budget m
+
+  -- ---- step 4
+
+  module _ (e : m .run .next ≡ S.Step4) (d : During n ok m risen best key) where
+    -- by the rise as a natural number
+    least : Best 64 n ok limit (m .working) (m .run .rows) (m .run .columns) (pos (d .rise)) best
+    least = rw (d .risen-is) at (d .least)
+
+    limited : (i j : ℕ) → i < n → j < n → Open ok (m .run .rows) (m .run .columns) i j → ltZ (key-at 64 n ok limit (m .working) (pos (d .rise)) i j) limit ≡ true
+    limited = rw (d .risen-is) at (bounded h d)
+
+    -- no zero
+    pub none-made : (ltZ best limit ≡ false) → next ≡ machine (to S.Step6 (m .run)) (m .working) (m .marks) (m .row-prices) (m .column-prices)
+    none-made f = sym (arm-4 n ok budget m e (sym (keyed-none 64 n ok limit (h .frame .word .most) (m .working) (m .run) (d .rise) (above h) least (m .marks) limited f)))
+
+    pub above-made : ltZ best limit ≡ true → ltZ risen (value-of 64 best) ≡ true → next ≡ machine (to S.Step6 (m .run)) (m .working) (m .marks) (m .row-prices) (m .column-prices)
+    above-made f t =
+        sym (arm-4 n ok budget m e (sym (keyed-above 64 n ok limit (h .frame .word .most) (m .working) (m .run) (d .rise) (above h) least (m .marks) f (rw (d .risen-is) at t))))
+
+    pub held-none : next ≡ machine (to S.Step6 (m .run)) (m .working) (m .marks) (m .row-prices) (m .column-prices)
+        → Held n costs mask budget next risen best keys star owner prime key
+    held-none q = held-next h q (h .lines) (h .key-long) (record {
+      rise = d .rise;
+      risen-is = d .risen-is;
+      keys = d .keys;
+      least = d .least;
+      free = d .free;
+      free-below = d .free-below;
+      bare = d .bare;
+      from = d .from;
+    })
+
+    -- a zero, at the place that the key names
+    module _ (near : ltZ best limit ≡ true) (zero : ltZ risen (value-of 64 best) ≡ false) where
+      z0 : ltZ (pos (d .rise)) (value-of 64 best) ≡ false
+      z0 = rw (d .risen-is) at zero
+
+      abbrev i : ℕ
+      i = row-of 64 best
+
+      abbrev j : ℕ
+      j = column-of 64 best
+
+      search : Search n ok (m .working) (m .marks) (m .run .rows) (m .run .columns)
+      search = sound-at (h .kept) S.Step4 e
+
+      at : OpenZero n ok (m .working) (m .run .rows) (m .run .columns) i j
+      at =
+          let k = least .hit near in
+          let r = row-named 64 n ok limit (h .frame .word .most) (m .working) (m .run .rows) (m .run .columns) (d .rise) (above h) least near in
+          let c = column-named 64 n ok limit (h .frame .word .most) (m .working) (m .run .rows) (m .run .columns) (d .rise) (above h) least near in
+          rw (r, c) (record {
+            row-below = k .row-below;
+            column-below = k .in-row .column-below;
+            is-open = k .in-row .is-open;
+            zero = zero-here 64 n ok limit (h .frame .word .most) (m .working) (m .run .rows) (m .run .columns) (d .rise) (above h) least near z0;
+          })
+
+      abbrev marked : List ℕ
+      marked = set (m .marks) (i * n + j) 2
+
+      -- the star that the array has
+      star-at : getD star i 0 ≡ star-in-row n marked i
+      star-at = h .lines .star-is i (at .row-below) ∙ sym (same-star search i j at i)
+
+      lines : Lines n marked star owner (set prime i j)
+      lines = lines-primed search i j at (h .lines)
+
+      zero-made : next ≡ machine (cond (ltb (star-in-row n marked i) n) (covering i (star-in-row n marked i) (m .run)) (reaching i j (m .run))) (m .working) marked (m .row-prices) (m .column-prices)
+      zero-made = sym (arm-4 n ok budget m e (sym (keyed-zero 64 n ok limit (h .frame .word .most) (m .working) (m .run) (d .rise) (above h) least (m .marks) near z0)))
+
+      -- in a row without a star
+      pub reaches-made : n ≤ getD star i 0 → next ≡ machine (reaching i j (m .run)) (m .working) marked (m .row-prices) (m .column-prices)
+      reaches-made l =
+          zero-made ∙ ap (λ b. machine (cond b (covering i (star-in-row n marked i) (m .run)) (reaching i j (m .run))) (m .working) marked (m .row-prices) (m .column-prices))
+          (le-ltb (star-in-row n marked i) n (rw star-at at l))
+
+      pub held-reaches : {risen′ best′ : ℤ} → n ≤ getD star i 0 → Held n costs mask budget next risen′ best′ keys star owner (set prime i j) key
+      unfolding reaching
+      held-reaches l = held-next h (reaches-made l) lines (h .key-long) tt
+
+      -- in a row with one
+      module _ (l : getD star i 0 < n) where
+        abbrev s : ℕ
+        s = getD star i 0
+
+        pub covers-made : next ≡ machine (covering i s (m .run)) (m .working) marked (m .row-prices) (m .column-prices)
+        covers-made =
+            zero-made
+            ∙ ap (λ b. machine (cond b (covering i (star-in-row n marked i) (m .run)) (reaching i j (m .run))) (m .working) marked (m .row-prices) (m .column-prices))
+            (lt-ltb (star-in-row n marked i) n (rw star-at at l))
+            ∙ ap (λ x. machine (covering i x (m .run)) (m .working) marked (m .row-prices) (m .column-prices)) (sym star-at)
+
+        abbrev term : ℕ → ℤ
+        term = term-at n keys (m .row-prices) s (getD (m .column-prices) s (pos 0) -ℤ risen)
+
+        pub held-covers : (key′ : List ℤ) → n ≤ length key′
+            → ((a : ℕ) → a < n → getD key′ a (pos 0) ≡ lowered-key (with (m .run .rows) i) term a (getD key a (pos 0)))
+            → Held n costs mask budget next risen (least-key (with (m .run .rows) i) (λ a. lesser (getD key a (pos 0)) (term a)) n) keys star owner (set prime i j) key′
+        unfolding covering lowered-key
+        held-covers key′ long new =
+            let k0 = keys-covered 64 n ok limit beyond (m .working) risen i (d .keys) in
+            let k1 = keys-opened 64 n ok limit beyond (m .working) risen {rows = with (m .run .rows) i} {columns = m .run .columns} {key = λ a. getD key a (pos 0)} {key′ = λ a. getD key′ a (pos 0)} {term = term} s l (λ a ha u t. told-at h risen s l a ha t) (λ a ha u t. shut-at h risen (risen-small h d) s l a ha t)
+            (λ a ha u. new a ha ∙ rw (T-false (has (with (m .run .rows) i) a) u)) k0 in
+            let k2 = keys-opened 64 n ok limit beyond (m .working) risen {rows = with (m .run .rows) i} {columns = m .run .columns} {key = λ a. getD key a (pos 0)} {key′ = λ a. lesser (getD key a (pos 0)) (term a)} {term = term} s l (λ a ha u t. told-at h risen s l a ha t) (λ a ha u t. shut-at h risen (risen-small h d) s l a ha t)
+            (λ a ha u. refl) k0 in
+            held-next h covers-made lines long (record {
+              rise = d .rise;
+              risen-is = d .risen-is;
+              keys = k1;
+              least = best-of 64 n ok limit beyond (m .working) risen k2;
+              free = d .free;
+              free-below = d .free-below;
+              bare = rw (same-owner search i j at (d .free) (d .free-below)) (d .bare);
+              from = d .from;
+            })
+
+  -- ---- step 6
+
+  module _ (e : m .run .next ≡ S.Step6) (d : During n ok m risen best key) where
+    least-6 : Best 64 n ok limit (m .working) (m .run .rows) (m .run .columns) (pos (d .rise)) best
+    least-6 = rw (d .risen-is) at (d .least)
+
+    limited-6 : (i j : ℕ) → i < n → j < n → Open ok (m .run .rows) (m .run .columns) i j → ltZ (key-at 64 n ok limit (m .working) (pos (d .rise)) i j) limit ≡ true
+    limited-6 = rw (d .risen-is) at (bounded h d)
+
+    pub blocked-made : ltZ best limit ≡ false → next ≡ machine (to S.NoPairing (m .run)) (m .working) (m .marks) (m .row-prices) (m .column-prices)
+    blocked-made f =
+        sym (arm-6 n ok budget m e (sym (keyed-blocked 64 n ok limit (h .frame .word .most) (m .working) (m .run) (d .rise) (above h) least-6 budget (m .row-prices) (m .column-prices) limited-6 f)))
+
+    pub held-blocked : ltZ best limit ≡ false → Held n costs mask budget next risen best keys star owner prime key
+    held-blocked f = held-next h (blocked-made f) (h .lines) (h .key-long) tt
+
+    module _ (near : ltZ best limit ≡ true) where
+      pub spent-made : m .run .adjustments ≡ budget → next ≡ machine (to S.Unfinished (m .run)) (m .working) (m .marks) (m .row-prices) (m .column-prices)
+      spent-made q =
+          sym (arm-6 n ok budget m e (sym (keyed-spent 64 n ok limit (h .frame .word .most) (m .working) (m .run) (d .rise) (above h) least-6 budget (m .row-prices) (m .column-prices) near q)))
+
+      pub held-spent : m .run .adjustments ≡ budget → Held n costs mask budget next risen best keys star owner prime key
+      held-spent q = held-next h (spent-made q) (h .lines) (h .key-long) tt
+
+      abbrev z : ℤ
+      z = value-of 64 best -ℤ risen
+
+      pub adjusts-made : m .run .adjustments ≢ budget
+          → next ≡ machine (adjusting (m .run)) (followed n ok z (m .run .rows) (m .run .columns) (m .working)) (m .marks) (lowered z (m .run .rows) (m .row-prices)) (raised z (m .run .columns) (m .column-prices))
+      adjusts-made q =
+          sym (arm-6 n ok budget m e (sym (keyed-adjusts 64 n ok limit (h .frame .word .most) (m .working) (m .run) (d .rise) (above h) least-6 budget (m .row-prices) (m .column-prices) near q)))
+          ∙ ap (λ r. let x = value-of 64 best -ℤ r in
+          machine (adjusting (m .run)) (followed n ok x (m .run .rows) (m .run .columns) (m .working)) (m .marks) (lowered x (m .run .rows) (m .row-prices)) (raised x (m .run .columns) (m .column-prices)))
+          (sym (d .risen-is))
+
+      -- the column without a star is not covered
+      free-open : has (m .run .columns) (d .free) ≡ false
+      free-open =
+          let s : Search n ok (m .working) (m .marks) (m .run .rows) (m .run .columns) = sound-at (h .kept) S.Step6 e .0 in
+          by-cases (has (m .run .columns) (d .free))
+          (λ y. let c = s .phase .crossed (d .free) (d .free-below) (rw y tt) in
+          absurd (omega (arith, c .0, find-row (s .shows) (s .row) (s .phase .matching) (d .free) (d .free-below), d .bare)))
+          (λ y. y)
+
+      pub held-adjusts : m .run .adjustments ≢ budget → Held n costs mask budget next (value-of 64 best) best keys star owner prime key
+      unfolding adjusting value-of
+      held-adjusts q =
+          let c = getD (m .column-prices) (d .free) (pos 0) in
+          let v = value-of 64 best in
+          let rise : v ≡ risen +ℤ z = omega (signed, minus-parts v risen, plus-parts risen z) in
+          let new : getD (raised z (m .run .columns) (m .column-prices)) (d .free) (pos 0) ≡ c +ℤ z =
+          raised-at z (m .run .columns) (m .column-prices) (d .free) (omega (arith, d .free-below, h .kept .going .shape .column-prices)) ∙ rw free-open in
+          let same : (c +ℤ z) -ℤ v ≡ c -ℤ risen = omega (signed, minus-parts v risen, plus-parts c z, minus-parts (c +ℤ z) v, minus-parts c risen) in
+          held-next h (adjusts-made q) (h .lines) (h .key-long) (record {
+            rise = _;
+            risen-is = refl;
+            keys = rw (← rise) at (keys-adjusted 64 n ok limit (m .working) (m .run .rows) (m .run .columns) risen z (h .kept .going .shape .working) (d .keys));
+            least = rw (← rise) at (best-adjusted 64 n ok limit (m .working) (m .run .rows) (m .run .columns) risen z (h .kept .going .shape .working) (d .least));
+            free = d .free;
+            free-below = d .free-below;
+            bare = d .bare;
+            from = rw (new, same) (d .from);
+          })
+
+  -- ---- step 5
+
+  module _ (i j : ℕ) (e : m .run .next ≡ S.Step5 i j) where
+    ready : Ready n ok (m .working) (m .marks) (m .run .rows) (m .run .columns) i j
+    ready = sound-at (h .kept) (S.Step5 i j) e
+
+    pub walks : Follows n prime n owner i j
+    walks = path-follows ready (h .lines)
+
+    abbrev flipped-marks : List ℕ
+    flipped-marks = S.clear-primes (S.flip n (m .marks) (S.path n (m .marks) n i j))
+
+    pub flips-made : next ≡ machine (augmenting (m .run)) (m .working) flipped-marks (m .row-prices) (m .column-prices)
+    unfolding S.step5
+    flips-made = sym (arm-5 n ok budget m e refl)
+
+    pub held-flips : {star′ owner′ prime′ : List ℕ} (risen′ best′ : ℤ) → (star′, owner′) ≡ flipped n prime n star owner i j → prime′ ≡ table (λ k. n) (length prime)
+        → Held n costs mask budget next risen′ best′ keys star′ owner′ prime′ key
+    unfolding augmenting
+    held-flips risen′ best′ a b = held-next h flips-made (lines-flipped ready (h .lines) a b) (h .key-long) tt
+
+  -- ---- step 3
+
+  module _ (e : m .run .next ≡ S.Step3) where
+    at-3 : Starred n ok (m .working) (m .marks) × (m .run .rows ≡ 0)
+    at-3 = sound-at (h .kept) S.Step3 e
+
+    -- what the arrays count is what the marks show
+    columns-are : those (λ b. ltb (getD owner b 0) n) n ≡ S.star-columns n (m .marks)
+    unfolding S.star-columns
+    columns-are =
+        ext n _ _ (those-lt _ n) (those-lt _ n)
+        (λ b hb. has-those _ n b hb ∙ ap (λ x. ltb x n) (h .lines .owner-is b hb) ∙ sym (has-those (λ b. ltb (star-in-column n (m .marks) b) n) n b hb))
+
+    stars-are : count (λ a. ltb (getD star a 0) n) n ≡ S.star-count n (m .marks)
+    unfolding S.star-count
+    stars-are = count-ext _ _ n (λ a ha. ap (λ x. ltb x n) (h .lines .star-is a ha))
+
+    abbrev crossed : S.Next → S.Run
+    crossed x = S.run-with (m .run .rows) (those (λ b. ltb (getD owner b 0) n) n) (m .run .adjustments) (m .run .primes) (m .run .augmentations) x
+
+    pub full-made : count (λ a. ltb (getD star a 0) n) n ≡ n → next ≡ machine (crossed S.Paired) (m .working) (m .marks) (m .row-prices) (m .column-prices)
+    unfolding S.step3
+    full-made q =
+        sym (arm-3 n ok budget m e refl) ∙ rw (← columns-are, ← stars-are, eq-eqb (count (λ a. ltb (getD star a 0) n) n) n q)
+
+    pub part-made : count (λ a. ltb (getD star a 0) n) n ≢ n → next ≡ machine (crossed S.Step4) (m .working) (m .marks) (m .row-prices) (m .column-prices)
+    unfolding S.step3
+    part-made q =
+        sym (arm-3 n ok budget m e refl) ∙ rw (← columns-are, ← stars-are, ne-eqb (count (λ a. ltb (getD star a 0) n) n) n q)
+
+    pub held-full : {key′ : List ℤ} (risen′ best′ : ℤ) → n ≤ length key′ → count (λ a. ltb (getD star a 0) n) n ≡ n
+        → Held n costs mask budget next risen′ best′ keys star owner prime key′
+    held-full risen′ best′ long q = held-next h (full-made q) (h .lines) long tt
+
+    -- a column without a star
+    free-column : count (λ a. ltb (getD star a 0) n) n ≢ n → (b : ℕ) × (b < n) × (n ≤ star-in-column n (m .marks) b)
+    free-column q =
+        let c = those (λ b. ltb (getD owner b 0) n) n in
+        let s = begun n ok {rows = m .run .rows} {columns = c} (at-3 .0) (at-3 .1) columns-are (λ x. q (stars-are ∙ x)) in
+        let few = covers (s .phase) in
+        let x = count-miss (has c) n (omega (arith, few, s .missing)) in
+        let f : ltb (star-in-column n (m .marks) (x .0)) n ≡ false =
+        ap (λ y. ltb y n) (sym (h .lines .owner-is (x .0) (x .1))) ∙ sym (has-those _ n (x .0) (x .1)) ∙ T-false _ (x .2) in
+        (x .0, x .1, ltb-false _ n f)
+
+    pub held-part : {key′ : List ℤ} (best′ : ℤ) → n ≤ length key′ → count (λ a. ltb (getD star a 0) n) n ≢ n
+        → Opens n (those (λ b. ltb (getD owner b 0) n) n) keys (m .row-prices) (m .column-prices) key′ best′
+        → Held n costs mask budget next (pos 0) best′ keys star owner prime key′
+    held-part {key′} best′ long q o =
+        let f = free-column q in
+        let x = o ok (m .working) (λ i j hi hj t. told-0 i j hi hj t) (λ i j hi hj t. shut-0 i j hi hj t) in
+        let c = getD (m .column-prices) (f .0) (pos 0) in
+        let same : c -ℤ pos 0 ≡ c = omega (signed, minus-parts c (pos 0)) in
+        held-next h (part-made q) (h .lines) long (record {
+          rise = 0;
+          risen-is = refl;
+          keys = rw (at-3 .1) (x .0);
+          least = rw (at-3 .1) (x .1);
+          free = f .0;
+          free-below = f .1;
+          bare = f .2;
+          from = rw same (column-small h (f .0) (f .1));
+        })
+      where
+        told-0 : (i j : ℕ) → i < n → j < n → T (ok i j) → term-at n keys (m .row-prices) j (getD (m .column-prices) j (pos 0)) i ≡ pack 64 (cell (pos 0) n (m .working) i j +ℤ pos 0) j i
+        told-0 i j hi hj t =
+            let q = getD (m .column-prices) j (pos 0) in
+            let e : q ≡ q -ℤ pos 0 = omega (signed, minus-parts q (pos 0)) in
+            ap (λ y. term-at n keys (m .row-prices) j y i) e ∙ told-at h (pos 0) j hj i hi t
+
+        shut-0 : (i j : ℕ) → i < n → j < n → T (not (ok i j)) → limit ≤ℤ term-at n keys (m .row-prices) j (getD (m .column-prices) j (pos 0)) i
+        shut-0 i j hi hj t =
+            let q = getD (m .column-prices) j (pos 0) in
+            let e : q -ℤ pos 0 ≡ q = omega (signed, minus-parts q (pos 0)) in
+            rw e at (shut-at h (pos 0) (within-zero 549755813888) j hj i hi t)

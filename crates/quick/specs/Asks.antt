@@ -1,0 +1,183 @@
+-- What the functions ask of what they are handed.
+use mathlib.Core.Path.{_≡_}
+use mathlib.Core.Logic.{_≢_}
+use mathlib.Core.Bool.{true}
+use mathlib.Core.List.{List}
+use Prim.Native.Nat.{ℕ, _+_, _*_, _^_, _≤_, _<_}
+use lib.Dec.{T}
+use lib.IntN.{ℤ, pos}
+use lib.Signed.{ltZ, _≤ℤ_}
+use lib.ListN.{length, getD}
+use mir.Syntax.{w64}
+use mir.Val.{SFits}
+use Rattle.lines.specs.First.{any}
+use Rattle.lines.specs.Square.{table}
+use Rattle.lines.specs.Bounds.{Within}
+use Rattle.steps.specs.Lent.{allows, cost-at}
+use Rattle.steps.specs.Steps.{row-price, start}
+use Rattle.ground.specs.Square.{Square, InWord}
+use Rattle.ground.specs.Prices.{AdjustsPrices}
+use Rattle.ground.specs.Good.{ForStart, Frame, Kept}
+use Rattle.quick.specs.Keys.{limit, row-of, column-of}
+use Rattle.quick.specs.Ways.{Follows, change}
+use Rattle.quick.specs.Shown.{Holds}
+use Rattle.quick.specs.declared.step.State.{State}
+
+-- ---- keys
+
+-- costs and mask, and room for their keys
+pub record Fills (n : ℕ) (costs : List ℤ) (mask : List ℕ) (keys : List ℤ) : Type 0 where
+  pub most : n ≤ 64
+  pub costs-square : Square n costs
+  pub mask-square : Square n mask
+  pub keys-square : Square n keys
+
+-- a cost of 32 bits, and lines that the base holds
+pub record Packs (value : ℤ) (column row : ℕ) : Type 0 where
+  pub small : Within 2147483648 value
+  pub column-bit : column < 64
+  pub row-bit : row < 64
+
+-- an entry and prices that can be taken off it
+pub record LessPrices (entry row-price price : ℤ) : Type 0 where
+  pub entry-within : Within 4611686018427387904 entry
+  pub row-within : Within 140737488355328 row-price
+  pub price-within : Within 140737488355328 price
+
+-- a column that opens
+pub record Lowers (n : ℕ) (keys row-prices : List ℤ) (column : ℕ) (price : ℤ) (key : List ℤ) : Type 0 where
+  pub word : InWord n
+  pub keys-square : Square n keys
+  pub row-lines : length row-prices ≡ n
+  pub key-long : n ≤ length key
+  pub below : column < n
+  pub price-within : Within 140737488355328 price
+  pub row-within : (i : ℕ) → i < n → Within 140737488355328 (getD row-prices i (pos 0))
+  pub entry-within : (i : ℕ) → i < n → Within 4611686018427387904 (getD keys (column * n + i) (pos 0))
+
+-- the least key may be taken apart: the place that it names is there
+abbrev pub Names : ℕ → ℤ → Type 0
+Names n best = ltZ best limit ≡ true → (pos 0 ≤ℤ best) × (row-of 64 best < n) × (column-of 64 best < n)
+
+-- ---- lines
+
+-- step 2 on costs: the prices of the rows are those of step 1
+pub record Stars (n : ℕ) (costs : List ℤ) (mask : List ℕ) (row-prices : List ℤ) (star owner : List ℕ) : Type 0 where
+  pub most : n ≤ 64
+  pub costs-square : Square n costs
+  pub mask-square : Square n mask
+  pub prices : row-prices ≡ table (row-price n (allows n mask) (cost-at n costs)) n
+  pub small : (i : ℕ) → i < n → Within 2147483648 (row-price n (allows n mask) (cost-at n costs) i)
+  pub star-long : n ≤ length star
+  pub owner-long : n ≤ length owner
+
+-- one row of it
+pub record StarsRow (n : ℕ) (costs : List ℤ) (mask : List ℕ) (row : ℕ) (price : ℤ) : Type 0 where
+  pub most : n ≤ 64
+  pub costs-square : Square n costs
+  pub mask-square : Square n mask
+  pub below : row < n
+  pub small : Within 2147483648 price
+
+-- one cell
+pub record CostsPrice (place : ℕ) (price : ℤ) (costs : List ℤ) (mask : List ℕ) : Type 0 where
+  pub costs-long : place < length costs
+  pub mask-long : place < length mask
+  pub small : Within 2147483648 price
+
+pub record FlipsPath (n row column : ℕ) (star owner prime : List ℕ) : Type 0 where
+  pub follows : Follows n prime n owner row column
+  pub star-long : n ≤ length star
+  pub owner-long : n ≤ length owner
+  pub prime-long : n ≤ length prime
+
+pub record WritesMarks (n : ℕ) (star prime marks : List ℕ) : Type 0 where
+  pub marks-square : Square n marks
+  pub star-long : n ≤ length star
+  pub prime-long : n ≤ length prime
+
+-- ---- prices and working values
+
+pub record ForRowPrices (n : ℕ) (costs : List ℤ) (mask : List ℕ) (row-prices : List ℤ) : Type 0 where
+  pub costs-square : Square n costs
+  pub mask-square : Square n mask
+  pub row-lines : length row-prices ≡ n
+  pub rows : (i : ℕ) → i < n → T (any (allows n mask i) n)
+
+pub record WritesRow (n : ℕ) (costs : List ℤ) (mask : List ℕ) (row : ℕ) (price : ℤ) (column-prices working : List ℤ) : Type 0 where
+  pub costs-square : Square n costs
+  pub mask-square : Square n mask
+  pub working-square : Square n working
+  pub below : row < n
+  pub price-within : Within 1099511627776 price
+  pub column-lines : length column-prices ≡ n
+  pub column-within : (j : ℕ) → j < n → Within 1099511627776 (getD column-prices j (pos 0))
+
+pub record WritesWorking (n : ℕ) (costs : List ℤ) (mask : List ℕ) (row-prices column-prices working : List ℤ) : Type 0 where
+  pub costs-square : Square n costs
+  pub mask-square : Square n mask
+  pub working-square : Square n working
+  pub row-lines : length row-prices ≡ n
+  pub column-lines : length column-prices ≡ n
+  pub row-within : (i : ℕ) → i < n → Within 1099511627776 (getD row-prices i (pos 0))
+  pub column-within : (j : ℕ) → j < n → Within 1099511627776 (getD column-prices j (pos 0))
+
+-- ---- the steps
+
+pub record Starts (n : ℕ) (costs : List ℤ) (mask : List ℕ) (keys row-prices column-prices : List ℤ) (star owner prime : List ℕ) : Type 0 where
+  pub fills : Fills n costs mask keys
+  pub rows : (i : ℕ) → i < n → T (any (allows n mask i) n)
+  pub row-lines : length row-prices ≡ n
+  pub column-lines : length column-prices ≡ n
+  pub star-long : n ≤ length star
+  pub owner-long : n ≤ length owner
+  pub prime-long : n ≤ length prime
+
+-- what the arithmetic of steps 3 and 4 asks: sizes, and numbers far from the limits of 64 bits
+pub record Safe (n : ℕ) (risen : ℤ) (keys row-prices column-prices : List ℤ) : Type 0 where
+  pub word : InWord n
+  pub keys-square : Square n keys
+  pub row-lines : length row-prices ≡ n
+  pub column-lines : length column-prices ≡ n
+  pub row-within : (i : ℕ) → i < n → Within 1099511627776 (getD row-prices i (pos 0))
+  pub column-within : (j : ℕ) → j < n → Within 1099511627776 (getD column-prices j (pos 0))
+  pub risen-within : Within 1099511627776 risen
+  pub entry-within : (q : ℕ) → q < n * n → Within 4611686018427387904 (getD keys q (pos 0))
+
+pub record ForStep3 (n : ℕ) (keys row-prices column-prices : List ℤ) (star owner : List ℕ) (key : List ℤ) : Type 0 where
+  pub safe : Safe n (pos 0) keys row-prices column-prices
+  pub star-long : n ≤ length star
+  pub owner-long : n ≤ length owner
+  pub key-long : n ≤ length key
+
+pub record ForStep4 (n : ℕ) (s : State) (keys row-prices column-prices : List ℤ) (star prime : List ℕ) (key : List ℤ) : Type 0 where
+  pub safe : Safe n (s .risen) keys row-prices column-prices
+  pub names : Names n (s .best)
+  pub more : s .run .primes + 1 < 2 ^ 32
+  pub star-long : n ≤ length star
+  pub prime-long : n ≤ length prime
+  pub key-long : n ≤ length key
+
+pub record ForStep5 (n : ℕ) (s : State) (row column : ℕ) (star owner prime : List ℕ) : Type 0 where
+  pub path : FlipsPath n row column star owner prime
+  pub more : s .run .augmentations + 1 < 2 ^ 32
+
+-- where there is a least key and the budget is not spent it adjusts by its value less what has risen
+pub record ForStep6 (n budget : ℕ) (s : State) (row-prices column-prices : List ℤ) : Type 0 where
+  pub spare : s .run .adjustments ≤ budget
+  pub whole : ltZ (s .best) limit ≡ true → pos 0 ≤ℤ s .best
+  pub fits : ltZ (s .best) limit ≡ true → s .run .adjustments ≢ budget → SFits w64 (change s)
+  pub adjusts : ltZ (s .best) limit ≡ true → s .run .adjustments ≢ budget
+      → AdjustsPrices n (s .run .rows) (s .run .columns) (change s) row-prices column-prices
+
+-- ---- the whole run, from the start of a call
+
+pub record Simulates (n : ℕ) (costs : List ℤ) (mask : List ℕ) (budget : ℕ) (working : List ℤ) (marks : List ℕ) (row-prices column-prices : List ℤ) (star owner prime : List ℕ) (key : List ℤ) : Type 0 where
+  pub asks : ForStart n costs mask working marks row-prices column-prices
+  pub frame : Frame n mask (cost-at n costs)
+  pub holds : Holds frame
+  pub kept : Kept frame budget (start n (allows n mask) (cost-at n costs))
+  pub star-long : n ≤ length star
+  pub owner-long : n ≤ length owner
+  pub prime-long : n ≤ length prime
+  pub key-long : n ≤ length key

@@ -1,0 +1,5 @@
+pub mod Keys
+pub mod Best
+pub mod Shown
+pub mod Ways
+pub mod Asks

@@ -1,0 +1,108 @@
+-- The machine that the code's state shows, and what holds between the two.
+use mathlib.Core.Path.{_≡_}
+use mathlib.Core.Bool.{Bool, cond}
+use mathlib.Core.List.{List}
+use Prim.Native.Nat.{ℕ, _≤_, _<_}
+use lib.Dec.{eqb}
+use lib.IntN.{ℤ, pos, _-ℤ_}
+use lib.ListN.{length, getD}
+use Rattle.lines.specs.Square.{square, table as table-of}
+use Rattle.lines.specs.Bounds.{Within}
+use Rattle.steps.specs.Lent.{most-cost, allows, cost-at}
+use Rattle.steps.specs.Steps.{Machine, machine, star-in-row, star-in-column, prime-in-row}
+use Rattle.ground.specs.View.{view}
+use Rattle.ground.specs.Good.{Frame, Kept, Came}
+use Rattle.quick.specs.Keys.{limit, entry}
+use Rattle.quick.specs.Best.{Keys, Best}
+use Rattle.steps.specs.Steps as S
+use Rattle.steps.specs.Outcome.{no-run}
+use Rattle.steps.specs.Bounds as Bounds
+use Rattle.quick.specs.declared.step.State.{State}
+
+-- the working values that the prices leave, and the marks that the lines show
+unfoldable pub working-of : ℕ → List ℤ → List ℕ → List ℤ → List ℤ → List ℤ
+working-of n costs mask row-prices column-prices =
+    square (λ i j. cond (allows n mask i j) (cost-at n costs i j -ℤ getD row-prices i (pos 0) -ℤ getD column-prices j (pos 0)) (pos 0)) n
+
+unfoldable pub marks-of : ℕ → List ℕ → List ℕ → List ℕ
+marks-of n star prime = square (λ i j. cond (eqb (getD star i 0) j) 1 (cond (eqb (getD prime i 0) j) 2 0)) n
+
+-- the marks that step 2 leaves
+abbrev pub first-marks : ℕ → List ℤ → List ℕ → List ℕ
+first-marks n costs mask = S.step2 n (allows n mask) (square (S.excess n (allows n mask) (cost-at n costs)) n) (square (λ i j. 0) n) n
+
+-- the code's lines are what the searches find in the marks
+pub record Lines (n : ℕ) (marks star owner prime : List ℕ) : Type 0 where
+  pub star-long : n ≤ length star
+  pub owner-long : n ≤ length owner
+  pub prime-long : n ≤ length prime
+  pub star-is : (i : ℕ) → i < n → getD star i 0 ≡ star-in-row n marks i
+  pub owner-is : (j : ℕ) → j < n → getD owner j 0 ≡ star-in-column n marks j
+  pub prime-is : (i : ℕ) → i < n → getD prime i 0 ≡ prime-in-row n marks i
+
+-- what a run begins with, after steps 1 and 2
+pub record Started (n : ℕ) (costs : List ℤ) (mask : List ℕ) (s : State) (keys row-prices column-prices : List ℤ) (star owner prime : List ℕ) : Type 0 where
+  pub begun : view (s .run) ≡ no-run
+  pub table : keys ≡ square (entry 64 (allows n mask) (cost-at n costs)) n
+  pub row-prices-are : row-prices ≡ table-of (S.row-price n (allows n mask) (cost-at n costs)) n
+  pub column-prices-are : column-prices ≡ table-of (λ j. pos 0) n
+  pub star-long : n ≤ length star
+  pub owner-long : n ≤ length owner
+  pub prime-long : n ≤ length prime
+  pub star-is : (i : ℕ) → i < n → getD star i 0 ≡ star-in-row n (first-marks n costs mask) i
+  pub owner-is : (j : ℕ) → j < n → getD owner j 0 ≡ star-in-column n (first-marks n costs mask) j
+  pub no-prime : (i : ℕ) → i < n → getD prime i 0 ≡ n
+
+-- how far prices and working values may be from 0, that keys hold them
+abbrev pub most-value : ℕ
+most-value = 274_877_906_944
+
+-- in a phase: the keys, the least of them, and a column without a star, whose price has risen by just that
+pub record During (n : ℕ) (ok : ℕ → ℕ → Bool) (m : Machine) (risen best : ℤ) (key : List ℤ) : Type 0 where
+  pub rise : ℕ
+  pub risen-is : risen ≡ pos rise
+  pub keys : Keys 64 n ok limit (m .working) (m .run .rows) (m .run .columns) risen (λ i. getD key i (pos 0))
+  pub least : Best 64 n ok limit (m .working) (m .run .rows) (m .run .columns) risen best
+  pub free : ℕ
+  pub free-below : free < n
+  pub bare : n ≤ star-in-column n (m .marks) free
+  pub from : Within most-value (getD (m .column-prices) free (pos 0) -ℤ risen)
+
+-- by what is next
+abbrev pub Searching : S.Next → (n : ℕ) → (ℕ → ℕ → Bool) → Machine → ℤ → ℤ → List ℤ → Type 0
+Searching S.Step3 n ok m risen best key = Unit
+Searching S.Step4 n ok m risen best key = During n ok m risen best key
+Searching (S.Step5 i j) n ok m risen best key = Unit
+Searching S.Step6 n ok m risen best key = During n ok m risen best key
+Searching S.Paired n ok m risen best key = Unit
+Searching S.NoPairing n ok m risen best key = Unit
+Searching S.Unfinished n ok m risen best key = Unit
+
+-- a run whose values keys hold
+abbrev pub Holds : {n : ℕ} {mask : List ℕ} {cost : ℕ → ℕ → ℤ} → Frame n mask cost → Type 0
+Holds {n} f = Bounds.limit n most-cost (f .row-bound) (f .column-bound) ≤ most-value
+
+-- the machine m is what the code's state shows
+pub record Held (n : ℕ) (costs : List ℤ) (mask : List ℕ) (budget : ℕ) (m : Machine) (risen best : ℤ) (keys : List ℤ) (star owner prime : List ℕ) (key : List ℤ) : Type 0 where
+  pub frame : Frame n mask (cost-at n costs)
+  pub holds : Holds frame
+  pub kept : Kept frame budget m
+  pub table : keys ≡ square (entry 64 (allows n mask) (cost-at n costs)) n
+  pub lines : Lines n (m .marks) star owner prime
+  pub key-long : n ≤ length key
+  pub searching : Searching (m .run .next) n (allows n mask) m risen best key
+
+-- the state itself as a machine
+abbrev pub shown : ℕ → List ℤ → List ℕ → S.Run → List ℤ → List ℤ → List ℕ → List ℕ → Machine
+shown n costs mask run row-prices column-prices star prime =
+    machine run (working-of n costs mask row-prices column-prices) (marks-of n star prime) row-prices column-prices
+
+-- after one step of the code from the machine m: its state shows the machine's next, and holds it
+pub record Turned (n : ℕ) (costs : List ℤ) (mask : List ℕ) (budget : ℕ) (m : Machine) (s : State) (keys row-prices column-prices : List ℤ) (star owner prime : List ℕ) (key : List ℤ) : Type 0 where
+  pub made : shown n costs mask (view (s .run)) row-prices column-prices star prime ≡ S.step n (allows n mask) budget m
+  pub held : Held n costs mask budget (shown n costs mask (view (s .run)) row-prices column-prices star prime) (s .risen) (s .best) keys star owner prime key
+
+-- some number of steps leads from the machine m to the one that the state shows and holds, which is at an end
+pub record Reached (n : ℕ) (costs : List ℤ) (mask : List ℕ) (budget : ℕ) (m : Machine) (s : State) (keys row-prices column-prices : List ℤ) (star owner prime : List ℕ) (key : List ℤ) : Type 0 where
+  pub came : Came n mask budget m (shown n costs mask (view (s .run)) row-prices column-prices star prime)
+  pub held : Held n costs mask budget (shown n costs mask (view (s .run)) row-prices column-prices star prime) (s .risen) (s .best) keys star owner prime key

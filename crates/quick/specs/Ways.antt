@@ -1,0 +1,108 @@
+-- The ways that the code goes in steps 3 to 6, each by what it tests and what it leaves.
+use mathlib.Core.Path.{_≡_}
+use mathlib.Core.Logic.{_≢_}
+use mathlib.Core.Bool.{Bool, true, false, not, cond}
+use mathlib.Core.List.{List}
+use Prim.Native.Nat.{ℕ, zero, suc, _+_, _*_, _≤_, _<_}
+use lib.Dec.{T, ltb}
+use lib.IntN.{ℤ, pos, _+ℤ_, _-ℤ_}
+use lib.Signed.{ltZ, _≤ℤ_}
+use lib.ListN.{getD, set}
+use Rattle.lines.specs.Square.{cell}
+use Rattle.lines.specs.Count.{count}
+use Rattle.lines.specs.Sets.{with, those}
+use Rattle.steps.specs.Steps.{run-with, to, covering, reaching, adjusting, lowered, raised}
+use Rattle.ground.specs.View.{view}
+use Rattle.quick.specs.Keys.{limit, pack, value-of, column-of, row-of, names-zero, less-prices, lesser, lowered-key, least-key}
+use Rattle.quick.specs.Best.{Keys, Best}
+use Rattle.steps.specs.Steps as S
+use Rattle.quick.specs.declared.step.State.{State}
+
+-- what a row has in a column that opens at this price
+abbrev pub term-at : ℕ → List ℤ → List ℤ → ℕ → ℤ → ℕ → ℤ
+term-at n keys row-prices column price i = less-prices 64 (getD keys (column * n + i) (pos 0)) (getD row-prices i (pos 0)) price
+
+-- the state with something else next
+pub record Goes (x : S.Next) (s r : State) : Type 0 where
+  pub run : view (r .run) ≡ to x (view (s .run))
+  pub risen : r .risen ≡ s .risen
+  pub best : r .best ≡ s .best
+
+-- ---- step 3: with n stars all is paired; else the columns without a star open, at their prices
+
+-- the columns below n but those of a set open: what the keys then tell, of any cells whose keys the terms are
+abbrev pub Opens : ℕ → ℕ → List ℤ → List ℤ → List ℤ → List ℤ → ℤ → Type 0
+Opens n columns keys row-prices column-prices key best =
+    (ok : ℕ → ℕ → Bool) (working : List ℤ)
+    → ((i j : ℕ) → i < n → j < n → T (ok i j) → term-at n keys row-prices j (getD column-prices j (pos 0)) i ≡ pack 64 (cell (pos 0) n working i j +ℤ pos 0) j i)
+    → ((i j : ℕ) → i < n → j < n → T (not (ok i j)) → limit ≤ℤ term-at n keys row-prices j (getD column-prices j (pos 0)) i)
+    → Keys 64 n ok limit working 0 columns (pos 0) (λ i. getD key i (pos 0)) × Best 64 n ok limit working 0 columns (pos 0) best
+
+module _ (n : ℕ) (s : State) (keys row-prices column-prices : List ℤ) (star owner : List ℕ) where
+  abbrev pub starred : ℕ
+  starred = those (λ j. ltb (getD owner j 0) n) n
+
+  abbrev pub crossed : S.Next → S.Run
+  crossed x = let r = view (s .run) in run-with (r .rows) starred (r .adjustments) (r .primes) (r .augmentations) x
+
+  pub data Crossed (r : State) (key′ : List ℤ) : Type 0 where
+    full : count (λ i. ltb (getD star i 0) n) n ≡ n → view (r .run) ≡ crossed S.Paired → Crossed r key′
+    part : count (λ i. ltb (getD star i 0) n) n ≢ n → view (r .run) ≡ crossed S.Step4 → r .risen ≡ pos 0
+        → Opens n starred keys row-prices column-prices key′ (r .best) → Crossed r key′
+
+-- ---- step 4
+
+module _ (n : ℕ) (s : State) (keys row-prices column-prices : List ℤ) (star prime : List ℕ) (key : List ℤ) where
+  -- the place that the least key names, the column of that row's star, and what each row has there
+  abbrev pub at-row : ℕ
+  at-row = row-of 64 (s .best)
+
+  abbrev pub at-column : ℕ
+  at-column = column-of 64 (s .best)
+
+  abbrev pub at-star : ℕ
+  at-star = getD star at-row 0
+
+  abbrev pub at-term : ℕ → ℤ
+  at-term = term-at n keys row-prices at-star (getD column-prices at-star (pos 0) -ℤ s .risen)
+
+  pub data Primed (r : State) (prime′ : List ℕ) (key′ : List ℤ) : Type 0 where
+    -- no zero
+    passes : names-zero 64 (s .best) (s .risen) ≡ false → Goes S.Step6 s r → prime′ ≡ prime → key′ ≡ key → Primed r prime′ key′
+    -- a zero in a row without a star
+    reaches : names-zero 64 (s .best) (s .risen) ≡ true → n ≤ at-star → view (r .run) ≡ reaching at-row at-column (view (s .run))
+        → prime′ ≡ set prime at-row at-column → key′ ≡ key → Primed r prime′ key′
+    -- a zero in a row with one
+    covers : names-zero 64 (s .best) (s .risen) ≡ true → at-star < n → view (r .run) ≡ covering at-row at-star (view (s .run)) → r .risen ≡ s .risen
+        → r .best ≡ least-key (with (s .run .rows) at-row) (λ i. lesser (getD key i (pos 0)) (at-term i)) n
+        → prime′ ≡ set prime at-row at-column
+        → ((i : ℕ) → i < n → getD key′ i (pos 0) ≡ lowered-key (with (s .run .rows) at-row) at-term i (getD key i (pos 0))) → Primed r prime′ key′
+
+-- ---- step 5: from the prime at (i, j) to the star in its column, to the prime in that star's row, and so on: each row takes its prime's column
+
+module _ (n : ℕ) (prime : List ℕ) where
+  unfoldable pub flipped : ℕ → List ℕ → List ℕ → ℕ → ℕ → List ℕ × List ℕ
+  flipped zero star owner i j = (star, owner)
+  flipped (suc k) star owner i j =
+      let o = getD owner j 0 in
+      cond (ltb o n) (flipped k (set star i j) (set owner j i) o (getD prime o 0)) (set star i j, set owner j i)
+
+  -- every place on the way is in the square
+  unfoldable pub Follows : ℕ → List ℕ → ℕ → ℕ → Type 0
+  Follows zero owner i j = Unit
+  Follows (suc k) owner i j = (i < n) × (j < n) × (getD owner j 0 < n → Follows k (set owner j i) (getD owner j 0) (getD prime (getD owner j 0) 0))
+
+-- ---- step 6
+
+-- what is left of the least value
+abbrev pub change : State → ℤ
+change s = value-of 64 (s .best) -ℤ s .risen
+
+module _ (budget : ℕ) (s : State) (row-prices column-prices : List ℤ) where
+  pub data Adjusted (r : State) (row-prices′ column-prices′ : List ℤ) : Type 0 where
+    blocked : ltZ (s .best) limit ≡ false → Goes S.NoPairing s r → row-prices′ ≡ row-prices → column-prices′ ≡ column-prices → Adjusted r row-prices′ column-prices′
+    spent : ltZ (s .best) limit ≡ true → s .run .adjustments ≡ budget → Goes S.Unfinished s r → row-prices′ ≡ row-prices → column-prices′ ≡ column-prices
+        → Adjusted r row-prices′ column-prices′
+    adjusts : ltZ (s .best) limit ≡ true → s .run .adjustments ≢ budget → view (r .run) ≡ adjusting (view (s .run))
+        → r .risen ≡ value-of 64 (s .best) → r .best ≡ s .best
+        → row-prices′ ≡ lowered (change s) (s .run .rows) row-prices → column-prices′ ≡ raised (change s) (s .run .columns) column-prices → Adjusted r row-prices′ column-prices′
