@@ -5,7 +5,7 @@ mod numbers;
 mod row;
 mod words;
 
-use libc::STDIN_FILENO;
+use input::Input;
 
 fn print_refusal(number: u32, place: usize) {
     let mut line = [0u8; 64];
@@ -55,6 +55,9 @@ fn print_case(file: &[u8]) {
 // An accepted file has at most 1,032 bytes.
 fn main() {
     let mut file = [0u8; 4096];
-    let count = io::read_full(STDIN_FILENO, &mut file);
+    let Input::Read(count) = input::read(&mut file) else {
+        os::fail(b"price_list: standard input");
+        return;
+    };
     print_case(&file[..count]);
 }

@@ -25,7 +25,7 @@ use Rattle.storm_case.proofs.ViewLaws.{rows-taken, columns-taken}
 -- ---- the verdict of the code's scan
 
 module _ (file : List ℕ) {s : Scan} {fragments events : List ℕ} (agrees : Agrees file (D.judged file) s fragments events) where
-  judged-is : {j : Judged} → s .judged ≡ j → D.judged file ≡ view-judged j (view-scan s fragments events)
+  pub judged-is : {j : Judged} → s .judged ≡ j → D.judged file ≡ view-judged j (view-scan s fragments events)
   judged-is e = sym (agrees .exact) ∙ ap (λ j. view-judged j (view-scan s fragments events)) e
 
   -- the counts of an accepted file are n

@@ -16,6 +16,7 @@ use Rattle.records.proofs.Cuts.{cut-found}
 use Rattle.storm_case.specs.Numbers.{u16-at, u32-at}
 use Rattle.storm_case.specs.Scan as D
 use Rattle.storm_case.specs.Case.{case, case-of, has-cells, read, hut-in, hut}
+use Rattle.storm_case.specs.Said.{said-in, said}
 use Rattle.storm_case.proofs.OneRecord.{Does, refuses, sizes, adds-row, adds-column, ends, record-does}
 use Rattle.storm_case.proofs.ScanLaws.{stays-refused, stays-accepted, never-more}
 
@@ -185,6 +186,15 @@ module _ (k : ℕ) (b : 1040 ≤ k) (file : List ℕ) where
   cut-hut i = rw (cut-judged k b file) (go (D.judged file) refl)
     where
       go : (j : D.Judged) → D.judged file ≡ j → hut-in (take k file) i j ≡ hut-in file i j
+      go (D.more s) e = refl
+      go (D.refused number place) e = refl
+      go (D.accepted s) e = rw (cut-nothing e)
+
+  pub cut-said : (f : List ℕ → D.Scan → ℕ → ℕ) (room : List ℕ) → said f (take k file) room ≡ said f file room
+  unfolding said said-in
+  cut-said f room = rw (cut-judged k b file) (go (D.judged file) refl)
+    where
+      go : (j : D.Judged) → D.judged file ≡ j → said-in (f (take k file)) room j ≡ said-in (f file) room j
       go (D.more s) e = refl
       go (D.refused number place) e = refl
       go (D.accepted s) e = rw (cut-nothing e)

@@ -4,6 +4,7 @@ pub mod ViewLaws
 pub mod CellLaws
 pub mod Fronts
 pub mod CaseLaws
+pub mod SaidLaws
 pub mod AboutLaws
 pub mod PairLaws
 pub mod Samples

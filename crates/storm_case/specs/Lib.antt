@@ -4,3 +4,4 @@ pub mod View
 pub mod Case
 pub mod Format
 pub mod Pair
+pub mod Said

@@ -91,3 +91,16 @@ pub record Fillable {A B : Type 0} (file : List ℕ) (s : Scan) (fragments event
   pub all-columns : s .events ≡ s .n
   pub costs-long : length costs ≡ s .n * s .n
   pub mask-long : length mask ≡ s .n * s .n
+
+-- ---- what a line's numbers ask
+
+-- so many records, of which each has this many bytes in the file
+pub record Readable (file : List ℕ) (count size : ℕ) (offsets : List ℕ) : Type 0 where
+  pub room : count ≤ length offsets
+  pub inside : (i : ℕ) → i < count → getD offsets i 0 + size ≤ length file
+
+-- the rows of an accepted file; none of a refused one
+abbrev pub accepted-lines : Judged → ℕ → ℕ
+accepted-lines More n = 0
+accepted-lines (Refused number place) n = 0
+accepted-lines Accepted n = n

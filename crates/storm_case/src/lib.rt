@@ -7,6 +7,7 @@ mod judgement;
 mod numbers;
 mod pair;
 mod record;
+mod said;
 mod scan;
 
 pub use pair::Pairs;
@@ -14,6 +15,9 @@ pub use pair::pair_case;
 pub use records::Found;
 pub use records::body;
 pub use records::find;
+pub use said::events_of;
+pub use said::huts_of;
+pub use said::rows_of;
 
 // What a file says: 0 or the number of a refusal with its place, the size and the window.
 #[repr(C)]

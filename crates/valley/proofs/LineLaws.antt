@@ -6,37 +6,35 @@ use Prim.Native.Nat.{ℕ, _+_}
 use native.Mathlib.Numerals.{add-one}
 use borrow.Author.Tests.{ne-eqb}
 use lib.ListN.{getD}
-use Rattle.storm_case.specs.declared.Hut.{Hut}
 use Rattle.storm_case.specs.declared.pair.Pairs.{Pairs}
-use Rattle.storm_case.specs.Case.{hut}
 use Rattle.text.specs.Text.{put}
 use Rattle.text.specs.Numbers.{refusal}
 use Rattle.text.proofs.PutLaws.{Holds, holds-more}
 use Rattle.valley.specs.Lines.{row-line, row-lines, total-line, no-pairing, lines}
 
 -- one more row's line, at the code's `row + 1`
-pub rows-more : (file columns : List ℕ) (row : ℕ) (h : Hut) (k : ℕ) → h ≡ hut file row → k ≡ getD columns row 0
-    → row-lines file columns (row + 1) ≡ row-lines file columns row ++ row-line h k
+pub rows-more : (huts columns : List ℕ) (row h k : ℕ) → h ≡ getD huts row 0 → k ≡ getD columns row 0
+    → row-lines huts columns (row + 1) ≡ row-lines huts columns row ++ row-line h k
 unfolding row-lines
-rows-more file columns row h k e f = rw (add-one row, e, f)
+rows-more huts columns row h k e f = rw (add-one row, e, f)
 
 -- which lines, by the answer's number
-module _ (file : List ℕ) (p : Pairs) (columns : List ℕ) where
-  pub lines-paired : p .number ≡ 0 → lines file p columns ≡ row-lines file columns (p .n) ++ total-line (p .total)
+module _ (huts : List ℕ) (p : Pairs) (columns : List ℕ) where
+  pub lines-paired : p .number ≡ 0 → lines huts p columns ≡ row-lines huts columns (p .n) ++ total-line (p .total)
   unfolding lines
   lines-paired e = rw e
 
   -- the rows were put, and the total behind them
-  pub paired-put : (out : List ℕ) {r r′ : ℕ} {now now′ : List ℕ} → p .number ≡ 0 → (r, now) ≡ put out 0 (row-lines file columns (p .n))
-      → (r′, now′) ≡ put now r (total-line (p .total)) → (r′, now′) ≡ put out 0 (lines file p columns)
+  pub paired-put : (out : List ℕ) {r r′ : ℕ} {now now′ : List ℕ} → p .number ≡ 0 → (r, now) ≡ put out 0 (row-lines huts columns (p .n))
+      → (r′, now′) ≡ put now r (total-line (p .total)) → (r′, now′) ≡ put out 0 (lines huts p columns)
   paired-put out {r} {r′} {now} {now′} e rows total =
-      let first : Holds out 0 (row-lines file columns (p .n)) r now = record { held = rows } in
+      let first : Holds out 0 (row-lines huts columns (p .n)) r now = record { held = rows } in
       rw (lines-paired e) (holds-more first (total-line (p .total)) total .held)
 
-  pub lines-none : p .number ≡ 6 → lines file p columns ≡ no-pairing
+  pub lines-none : p .number ≡ 6 → lines huts p columns ≡ no-pairing
   unfolding lines
   lines-none e = rw e
 
-  pub lines-refused : p .number ≢ 0 → p .number ≢ 6 → lines file p columns ≡ refusal (p .number) (p .place)
+  pub lines-refused : p .number ≢ 0 → p .number ≢ 6 → lines huts p columns ≡ refusal (p .number) (p .place)
   unfolding lines
   lines-refused d e = rw (ne-eqb _ _ d, ne-eqb _ _ e)

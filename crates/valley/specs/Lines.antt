@@ -1,25 +1,21 @@
--- What the program prints, as a definition of the file, the answer and the chosen columns. Every line ends with a line feed.
+-- What the program prints, as a definition of the huts, the answer and the chosen columns. Every line ends with a line feed.
 use mathlib.Core.Bool.{cond}
 use mathlib.Core.List.{List, [], _∷_, _++_}
 use Prim.Native.Nat.{ℕ, zero, suc}
 use lib.Dec.{eqb}
 use lib.IntN.{ℤ}
 use lib.ListN.{getD}
-use Rattle.storm_case.specs.declared.Hut.{Hut}
-use Rattle.storm_case.specs.declared.Hut.the-variants.{At, Absent}
 use Rattle.storm_case.specs.declared.pair.Pairs.{Pairs}
-use Rattle.storm_case.specs.Case.{hut}
 use Rattle.text.specs.Numbers.{decimal, signed, refusal}
 
--- `HUT COLUMN`; every row of an accepted file has a hut, and an absent one would print nothing
-unfoldable pub row-line : Hut → ℕ → List ℕ
-row-line (At number) column = decimal number ++ (32 ∷ []) ++ decimal column ++ (10 ∷ [])
-row-line Absent column = []
+-- `HUT COLUMN`
+unfoldable pub row-line : ℕ → ℕ → List ℕ
+row-line hut column = decimal hut ++ (32 ∷ []) ++ decimal column ++ (10 ∷ [])
 
 -- the lines of the first n rows
 unfoldable pub row-lines : List ℕ → List ℕ → ℕ → List ℕ
-row-lines file columns zero = []
-row-lines file columns (suc row) = row-lines file columns row ++ row-line (hut file row) (getD columns row 0)
+row-lines huts columns zero = []
+row-lines huts columns (suc row) = row-lines huts columns row ++ row-line (getD huts row 0) (getD columns row 0)
 
 -- `TOTAL t`
 unfoldable pub total-line : ℤ → List ℕ
@@ -31,6 +27,6 @@ no-pairing = 78 ∷ 79 ∷ 32 ∷ 80 ∷ 65 ∷ 73 ∷ 82 ∷ 73 ∷ 78 ∷ 71 �
 
 -- at 0 the rows and the total, at 6 the fixed line, at every other number the refusal
 unfoldable pub lines : List ℕ → Pairs → List ℕ → List ℕ
-lines file p columns =
-    cond (eqb (p .number) 0) (row-lines file columns (p .n) ++ total-line (p .total))
+lines huts p columns =
+    cond (eqb (p .number) 0) (row-lines huts columns (p .n) ++ total-line (p .total))
     (cond (eqb (p .number) 6) no-pairing (refusal (p .number) (p .place)))

@@ -3,41 +3,36 @@ ghost use mathlib.Core.Path.{_≡_};
 ghost use lib.ListN.{getD};
 ghost use Rattle.text.specs.Text.{put};
 ghost use Rattle.valley.specs.Lines.{row-line, row-lines, total-line, lines as Lines·lines};
-use storm_case::Hut;
 use storm_case::Pairs;
 
-fn put_row(out: &mut [u8], used: usize, hut: Hut, column: u16) -> usize
+fn put_row(out: &mut [u8], used: usize, hut: u16, column: u16) -> usize
     ensures { λ r. ⌜ (r, now (out .exit)) ≡ put (now (out .entry)) used (row-line hut column) ⌝ }
 {
-    match hut {
-        Hut::At(number) => {
-            let after_hut = text::put_decimal(out, used, number as u64);
-            let after_blank = text::put(out, after_hut, b" ");
-            let after_column = text::put_decimal(out, after_blank, column as u64);
-            text::put(out, after_column, b"\n")
-        }
-        Hut::Absent => text::put(out, used, b""),
-    }
+    let after_hut = text::put_decimal(out, used, hut as u64);
+    let after_blank = text::put(out, after_hut, b" ");
+    let after_column = text::put_decimal(out, after_blank, column as u64);
+    text::put(out, after_column, b"\n")
 }
 
-fn column_of(columns: &[u16], row: usize) -> u16
-    ensures { λ r. ⌜ r ≡ getD (now (columns .entry)) row 0 ⌝ }
+// What a row has; past the end, 0.
+fn of_row(numbers: &[u16], row: usize) -> u16
+    ensures { λ r. ⌜ r ≡ getD (now (numbers .entry)) row 0 ⌝ }
 {
-    if row < columns.len() {
-        return columns[row];
+    if row < numbers.len() {
+        return numbers[row];
     }
     0
 }
 
 // The lines of the first n rows.
-fn put_rows(file: &[u8], n: usize, columns: &[u16], out: &mut [u8]) -> usize
-    ensures { λ r. ⌜ (r, now (out .exit)) ≡ put (now (out .entry)) 0 (row-lines (now (file .entry)) (now (columns .entry)) n) ⌝ }
+fn put_rows(huts: &[u16], n: usize, columns: &[u16], out: &mut [u8]) -> usize
+    ensures { λ r. ⌜ (r, now (out .exit)) ≡ put (now (out .entry)) 0 (row-lines (now (huts .entry)) (now (columns .entry)) n) ⌝ }
 {
     let mut used = 0;
     let mut row = 0;
     while row < n {
-        let hut = storm_case::hut_of(file, row);
-        let column = column_of(columns, row);
+        let hut = of_row(huts, row);
+        let column = of_row(columns, row);
         used = put_row(out, used, hut, column);
         row += 1;
     }
@@ -53,11 +48,11 @@ fn put_total(out: &mut [u8], used: usize, total: i64) -> usize
 }
 
 // All lines, by the answer's number.
-pub(crate) fn lines(file: &[u8], pairs: Pairs, columns: &[u16], out: &mut [u8]) -> usize
-    ensures { λ r. ⌜ (r, now (out .exit)) ≡ put (now (out .entry)) 0 (Lines·lines (now (file .entry)) pairs (now (columns .entry))) ⌝ }
+pub(crate) fn lines(huts: &[u16], pairs: Pairs, columns: &[u16], out: &mut [u8]) -> usize
+    ensures { λ r. ⌜ (r, now (out .exit)) ≡ put (now (out .entry)) 0 (Lines·lines (now (huts .entry)) pairs (now (columns .entry))) ⌝ }
 {
     if pairs.number == 0 {
-        let used = put_rows(file, pairs.n, columns, out);
+        let used = put_rows(huts, pairs.n, columns, out);
         return put_total(out, used, pairs.total);
     }
     if pairs.number == 6 {

@@ -21,5 +21,7 @@ pub(crate) fn report(file: &[u8], out: &mut [u8]) -> usize
         &mut row_prices,
         &mut column_prices,
     );
-    crate::print::lines(file, pairs, &columns, out)
+    let mut huts = [0u16; 64];
+    storm_case::huts_of(file, &mut huts);
+    crate::print::lines(&huts, pairs, &columns, out)
 }

@@ -1,20 +1,40 @@
--- `main` meets its contract: what is written lies in the buffer.
+-- `main` meets its contract: what is read and what is written lie in their buffers.
 use borrow.Author.Needs.{needs}
+use Rattle.input.proofs.WithinLaws.{counted}
 use Rattle.text.proofs.PutLaws.{holds-fits, holds-prefix}
 use Rattle.valley.proofs.main.Statement.{statement}
 use Rattle.valley.proofs.main.Tie as tie
 
-slice-aggregate-read-full : tie.Need-slice-aggregate-read-full
-slice-aggregate-read-full c = search needs
+slice-aggregate-read : tie.Need-slice-aggregate-read
+slice-aggregate-read c = search needs
 
-read-full-requires : tie.Need-read-full-requires
-read-full-requires c κs = search needs
+read-requires : tie.Need-read-requires
+read-requires c κs = search needs
+
+enum-known-count : tie.Need-enum-known-count
+enum-known-count c = search needs
+
+enum-told : tie.Need-enum-told
+enum-told c = search needs
+
+slice-aggregate-fail : tie.Need-slice-aggregate-fail
+slice-aggregate-fail c = search needs
+
+fail-requires : tie.Need-fail-requires
+fail-requires c κs = search needs
+
+returns : tie.Need-returns
+returns c = search needs
 
 array-share-prefix-file : tie.Need-array-share-prefix-file
-array-share-prefix-file c = search needs
+array-share-prefix-file c =
+    let known = c .before in
+    counted _ (known .count .given .1) (known .before .before .before .read .ensures) .0
 
 slice-aggregate-report : tie.Need-slice-aggregate-report
-slice-aggregate-report c = search needs
+slice-aggregate-report c =
+    let known = c .before .before in
+    counted _ (known .count .given .1) (known .before .before .before .read .ensures) .1
 
 slice-aggregate-report-2 : tie.Need-slice-aggregate-report-2
 slice-aggregate-report-2 c = search needs
@@ -31,15 +51,29 @@ slice-aggregate-write-all c = holds-prefix (record { held = c .before .before .r
 write-all-requires : tie.Need-write-all-requires
 write-all-requires c κs = search needs
 
-returns : tie.Need-returns
-returns c = search needs
+slice-aggregate-fail-2 : tie.Need-slice-aggregate-fail-2
+slice-aggregate-fail-2 c = search needs
+
+fail-requires-2 : tie.Need-fail-requires-2
+fail-requires-2 c κs = search needs
+
+returns-2 : tie.Need-returns-2
+returns-2 c = search needs
+
+returns-3 : tie.Need-returns-3
+returns-3 c = search needs
 
 pub main-spec : {M : Type 1} → statement M
 main-spec =
     tie.close
     (tie.spec
-    slice-aggregate-read-full
-    read-full-requires
+    slice-aggregate-read
+    read-requires
+    enum-known-count
+    enum-told
+    slice-aggregate-fail
+    fail-requires
+    returns
     array-share-prefix-file
     slice-aggregate-report
     slice-aggregate-report-2
@@ -47,4 +81,7 @@ main-spec =
     array-share-prefix-out
     slice-aggregate-write-all
     write-all-requires
-    returns)
+    slice-aggregate-fail-2
+    fail-requires-2
+    returns-2
+    returns-3)

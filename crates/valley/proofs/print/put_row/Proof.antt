@@ -5,12 +5,6 @@ use Rattle.valley.specs.Lines.{row-line}
 use Rattle.valley.proofs.print.put_row.Statement.{statement}
 use Rattle.valley.proofs.print.put_row.Tie as tie
 
-enum-known-hut : tie.Need-enum-known-hut
-enum-known-hut c = search needs
-
-cast-put-decimal : tie.Need-cast-put-decimal
-cast-put-decimal c = search needs
-
 put-decimal-requires : tie.Need-put-decimal-requires
 put-decimal-requires c κs = search needs
 
@@ -29,15 +23,6 @@ slice-aggregate-put-2 c = search needs
 put-requires-2 : tie.Need-put-requires-2
 put-requires-2 c κs = search needs
 
-enum-told : tie.Need-enum-told
-enum-told c = search needs
-
-slice-aggregate-put-3 : tie.Need-slice-aggregate-put-3
-slice-aggregate-put-3 c = search needs
-
-put-requires-3 : tie.Need-put-requires-3
-put-requires-3 c κs = search needs
-
 same-length : tie.Need-same-length
 same-length c = search needs
 
@@ -48,33 +33,19 @@ returns c =
     let column = last .before .before .before .before .before in
     let blank = column .before .before .before .before in
     let number = blank .before .before .before .before .before in
-    let first : Holds _ _ _ _ _ = record { held = number .put-decimal .ensures } in
-    let pair = holds-more (holds-more first _ (blank .put .ensures)) _ (column .put-decimal2 .ensures) in
-    rw (number .before .before .before .hut .given .1) (holds-more pair _ (last .put2 .ensures) .held)
-
-same-length-2 : tie.Need-same-length-2
-same-length-2 c = search needs
-
-returns-2 : tie.Need-returns-2
-unfolding row-line
-returns-2 c = rw (c .before .before .before .before .before .enum-told .given .1) (c .before .before .put3 .ensures)
+    let hut : Holds _ _ _ _ _ = record { held = number .put-decimal .ensures } in
+    let pair = holds-more (holds-more hut _ (blank .put .ensures)) _ (column .put-decimal2 .ensures) in
+    holds-more pair _ (last .put2 .ensures) .held
 
 pub put-row-spec : {M : Type 1} → statement M
 put-row-spec =
     tie.close
     (tie.spec
-    enum-known-hut
-    cast-put-decimal
     put-decimal-requires
     slice-aggregate-put
     put-requires
     put-decimal-requires-2
     slice-aggregate-put-2
     put-requires-2
-    enum-told
-    slice-aggregate-put-3
-    put-requires-3
     same-length
-    returns
-    same-length-2
-    returns-2)
+    returns)

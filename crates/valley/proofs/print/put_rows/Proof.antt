@@ -10,20 +10,20 @@ use Rattle.valley.proofs.print.put_rows.Statement.{statement}
 use Rattle.valley.proofs.print.put_rows.Tie as tie
 
 abbrev Inv-loop : tie.InvT-loop
-Inv-loop file n columns out₀ used₀ row₀ out used row = (row ≤ n) × Holds out₀ 0 (row-lines file columns row) used out
+Inv-loop huts n columns out₀ used₀ row₀ out used row = (row ≤ n) × Holds out₀ 0 (row-lines huts columns row) used out
 
 abbrev μ-loop : tie.MeasureT-loop
-μ-loop file n columns out₀ used₀ row₀ out used row = n - row
+μ-loop huts n columns out₀ used₀ row₀ out used row = n - row
 
 loop-holds : tie.Need-loop-holds Inv-loop μ-loop
 unfolding row-lines
 loop-holds c = (omega arith, holds-none _)
 
-hut-of-requires : tie.Need-hut-of-requires Inv-loop μ-loop
-hut-of-requires c κs = search needs
+of-row-requires : tie.Need-of-row-requires Inv-loop μ-loop
+of-row-requires c κs = search needs
 
-column-of-requires : tie.Need-column-of-requires Inv-loop μ-loop
-column-of-requires c κs = search needs
+of-row-requires-2 : tie.Need-of-row-requires-2 Inv-loop μ-loop
+of-row-requires-2 c κs = search needs
 
 put-row-requires : tie.Need-put-row-requires Inv-loop μ-loop
 put-row-requires c κs = search needs
@@ -39,7 +39,7 @@ loop-again c =
     let column = c .before .before .before .before in
     let hut = column .before in
     let line = holds-more (hut .before .before .loop .inv .1) _ (c .before .before .put-row .ensures) in
-    (omega arith, rw (rows-more _ _ _ _ _ (hut .hut-of .ensures) (column .column-of .ensures)) line)
+    (omega arith, rw (rows-more _ _ _ _ _ (hut .of-row .ensures) (column .of-row2 .ensures)) line)
 
 same-length : tie.Need-same-length Inv-loop μ-loop
 same-length c = holds-long (c .before .loop .inv .1)
@@ -56,8 +56,8 @@ put-rows-spec =
     Inv-loop
     μ-loop
     loop-holds
-    hut-of-requires
-    column-of-requires
+    of-row-requires
+    of-row-requires-2
     put-row-requires
     add-row
     loop-less
