@@ -1,20 +1,18 @@
 // Working values: what each cost is above its row's minimum, the least uncovered value, and what an adjustment changes.
 ghost use mathlib.Core.Path.{_≡_};
 ghost use mathlib.Core.Bool.{cond, not, _&&_};
-ghost use Prim.Native.Nat.{ℕ, _+_, _*_, _/_, _%_, _<_};
-ghost use lib.Dec.{T, eqb};
+ghost use Prim.Native.Nat.{_+_, _*_, _/_, _%_, _<_};
+ghost use lib.Dec.{eqb};
 ghost use lib.IntN.{pos, _-ℤ_};
 ghost use lib.ListN.{length, getD};
 ghost use mir.Syntax.{w64};
 ghost use mir.Val.{SFits};
-ghost use Rattle.lines.specs.First.{any};
 ghost use Rattle.lines.specs.Square.{table, square, each-row};
 ghost use Rattle.lines.specs.Sets.{has};
-ghost use Rattle.lines.specs.Bounds.{Within};
 ghost use Rattle.steps.specs.Lent.{allows, cost-at};
 ghost use Rattle.steps.specs.Steps.{is-zero, row-price, excess, uncovered, follow, followed};
-ghost use Rattle.ground.specs.Square.{Square, Grid};
-ghost use Rattle.munkres.specs.Prices.{FollowsRow, Follows};
+ghost use Rattle.ground.specs.Square.{Grid};
+ghost use Rattle.munkres.specs.Prices.{SubtractsRow, Subtracts, FollowsRow, Follows};
 ghost use Rattle.ground.specs.Least.{least-from};
 use ground::prices;
 use ground::prices::Least;
@@ -39,7 +37,7 @@ pub(crate) fn is_element_zero(mask: &[u8], working: &[i64], place: usize) -> boo
 
 // Each allowed cell of the row becomes what its cost is above the price, and each other one 0.
 fn sub_row(n: usize, costs: &[i32], mask: &[u8], row: usize, price: i64, working: &mut [i64])
-    requires { ⌜ Square n (now costs) × Square n (now mask) × Square n (now working) × (row < n) × Within 2147483648 price ⌝ }
+    requires { ⌜ SubtractsRow n (now costs) (now mask) row price (now working) ⌝ }
     ensures { λ _. ⌜ now (working .exit) ≡ each-row n row (λ j w. cond (allows n (now (mask .entry)) row j) (cost-at n (now (costs .entry)) row j -ℤ price) (pos 0)) (now (working .entry)) ⌝ }
 {
     let start = row * n;
@@ -62,7 +60,7 @@ pub(crate) fn sub_min_of_each_row(
     working: &mut [i64],
     row_prices: &mut [i64],
 )
-    requires { ⌜ Square n (now costs) × Square n (now mask) × Square n (now working) × (length (now «row_prices») ≡ n) × ((i : ℕ) → i < n → T (any (allows n (now mask) i) n)) ⌝ }
+    requires { ⌜ Subtracts n (now costs) (now mask) (now working) (now «row_prices») ⌝ }
     ensures { λ _. ⌜ (now (working .exit) ≡ square (excess n (allows n (now (mask .entry))) (cost-at n (now (costs .entry)))) n)
         × (now («row_prices» .exit) ≡ table (row-price n (allows n (now (mask .entry))) (cost-at n (now (costs .entry)))) n) ⌝ }
 {

@@ -1,5 +1,5 @@
 -- What each step asks of the state, from what is held.
-use mathlib.Core.Path.{_≡_, sym, ap, subst, _∙_}
+use mathlib.Core.Path.{_≡_, sym, ap, _∙_}
 use mathlib.Core.Logic.{_≢_}
 use mathlib.Core.Bool.{true}
 use mathlib.Core.List.{List}
@@ -12,25 +12,21 @@ use Rattle.steps.specs.Steps as S
 use Rattle.steps.specs.Steps.{Machine}
 use Rattle.ground.specs.View.{view, view-next}
 use Rattle.ground.specs.Good.{Adjusts}
-use Rattle.ground.specs.declared.run.Next.{Next}
 use Rattle.ground.specs.declared.run.Next.the-variants.{Step3, Step4, Step5, Step6}
 use Rattle.ground.proofs.GoodLaws.{more-primes, more-augmentations, adjusts}
 use Rattle.quick.specs.Keys.{limit, value-of}
 use Rattle.quick.specs.Ways.{change}
 use Rattle.quick.specs.Asks.{ForStep3, ForStep4, ForStep5, ForStep6}
-use Rattle.quick.specs.Shown.{Searching, Held, shown}
+use Rattle.quick.specs.Shown.{Held, shown}
 use Rattle.quick.specs.declared.step.State.{State}
 use Rattle.quick.proofs.Choose.{some-open, least-found}
-use Rattle.quick.proofs.HeldLaws.{above, safe, safe-during, names}
+use Rattle.quick.proofs.HeldLaws.{searching-at, above, safe, safe-during, names}
 use Rattle.quick.proofs.StepHeld.{walks}
 
 module _ (n : ℕ) (costs : List ℤ) (mask : List ℕ) (budget : ℕ) (s : State) (keys row-prices column-prices : List ℤ) (star owner prime : List ℕ) (key : List ℤ)
     (h : Held n costs mask budget (shown n costs mask (view (s .run)) row-prices column-prices star prime) (s .risen) (s .best) keys star owner prime key) where
   abbrev m : Machine
   m = shown n costs mask (view (s .run)) row-prices column-prices star prime
-
-  searching : (x : Next) → s .run .next ≡ x → Searching (view-next x) n (allows n mask) m (s .risen) (s .best) key
-  searching x e = subst (λ x. Searching (view-next x) n (allows n mask) m (s .risen) (s .best) key) e (h .searching)
 
   pub asks-3 : s .run .next ≡ Step3 → ForStep3 n keys row-prices column-prices star owner key
   asks-3 e = record {
@@ -42,7 +38,7 @@ module _ (n : ℕ) (costs : List ℤ) (mask : List ℕ) (budget : ℕ) (s : Stat
 
   pub asks-4 : s .run .next ≡ Step4 → ForStep4 n s keys row-prices column-prices star prime key
   asks-4 e =
-      let d = searching Step4 e in
+      let d = searching-at h S.Step4 (ap view-next e) in
       record {
         safe = safe-during h d;
         names = names h d;
@@ -67,7 +63,7 @@ module _ (n : ℕ) (costs : List ℤ) (mask : List ℕ) (budget : ℕ) (s : Stat
   adjusted : (e : s .run .next ≡ Step6) → ltZ (s .best) limit ≡ true → s .run .adjustments ≢ budget
       → Adjusts n (allows n mask) (s .run .rows) (s .run .columns) (change s) (m .working) row-prices column-prices
   adjusted e near ne =
-      let d = searching Step6 e in
+      let d = searching-at h S.Step6 (ap view-next e) in
       let b = rw (d .risen-is) at (d .least) in
       let most = h .frame .word .most in
       let some = some-open 64 n (allows n mask) limit most (m .working) (s .run .rows) (s .run .columns) (d .rise) (above h) b near in
@@ -77,7 +73,7 @@ module _ (n : ℕ) (costs : List ℤ) (mask : List ℕ) (budget : ℕ) (s : Stat
   pub asks-6 : s .run .next ≡ Step6 → ForStep6 n budget s row-prices column-prices
   asks-6 e = record {
     spare = h .kept .spare;
-    whole = λ near. names h (searching Step6 e) near .0;
+    whole = λ near. names h (searching-at h S.Step6 (ap view-next e)) near .0;
     fits = λ near ne. adjusted e near ne .change;
     adjusts = λ near ne.
         let a = adjusted e near ne in

@@ -54,6 +54,9 @@ module _ {n : ℕ} {costs : List ℤ} {mask : List ℕ} {budget : ℕ} {m : Mach
   cell-small : (i j : ℕ) → i < n → j < n → Within most-value (cell (pos 0) n (m .working) i j)
   cell-small i j hi hj = within-more (h .holds) (kept-bounds (h .kept) .cells (i * n + j) (place-lt n i j hi hj))
 
+  pub searching-at : (x : S.Next) → m .run .next ≡ x → Searching x n ok m risen best key
+  searching-at x e = subst (λ x. Searching x n ok m risen best key) e (h .searching)
+
   -- ---- the table
 
   pub table-cell : (i j : ℕ) → i < n → j < n → getD keys (j * n + i) (pos 0) ≡ entry 64 ok cost j i

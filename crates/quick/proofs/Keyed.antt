@@ -1,12 +1,12 @@
 -- Steps 4 and 6 by the least key: each of the ways that the code goes is what the step's definition gives.
-use mathlib.Core.Path.{_≡_}
+use mathlib.Core.Path.{_≡_, refl, sym}
 use mathlib.Core.Logic.{_≢_, dite}
 use mathlib.Core.Bool.{Bool, true, false, cond}
 use mathlib.Core.List.{List}
 use Prim.Native.Nat.{ℕ, _+_, _*_, _≤_, _<_}
 use native.Mathlib.Decide.{decLt}
 use native.Mathlib.Omega.{arith}
-use borrow.Author.Tests.{lt-ltb, le-ltb, eq-eqb, ne-eqb}
+use borrow.Author.Tests.{lt-ltb, le-ltb}
 use lib.Dec.{T, ltb}
 use lib.IntN.{ℤ, pos, _-ℤ_}
 use lib.Signed.{ltZ, _≤ℤ_}
@@ -15,6 +15,7 @@ use Rattle.lines.specs.Square.{cell}
 use Rattle.steps.specs.Steps.{Run, NoPairing, Unfinished, Step6, to, star-in-row, covering, reaching, zero-column, step4, adjusting, lowest, followed, lowered, raised, step6}
 use Rattle.steps.specs.Going.{Open, NoZero}
 use Rattle.steps.proofs.Turns.{zero-found, lowest-found}
+use Rattle.ground.proofs.Adjusting.{step6-none, step6-spent, step6-adjusts}
 use Rattle.quick.specs.Keys.{value-of, column-of, row-of}
 use Rattle.quick.specs.Best.{key-at, Best}
 use Rattle.quick.proofs.Choose.{none-open, column-named, no-zero, column-found, row-found, some-open, least-found}
@@ -61,27 +62,25 @@ module _ (B n : ℕ) (ok : ℕ → ℕ → Bool) (limit : ℤ) (base : n ≤ B) 
   module _ (budget : ℕ) (row-prices column-prices : List ℤ) where
     pub keyed-blocked : Bounded → ltZ best limit ≡ false
         → step6 n ok budget r working row-prices column-prices ≡ (to NoPairing r, working, row-prices, column-prices)
-    unfolding step6
     keyed-blocked near far =
         let q = lowest n ok working (r .rows) (r .columns) in
         let h : n * n ≤ q = dite (decLt q (n * n))
         (λ l. let m = lowest-found n ok working (r .rows) (r .columns) l in
         absurd (none-open B n ok limit base working (r .rows) (r .columns) d above b near far _ _ (m .row-below) (m .column-below) (m .is-open)))
         (λ l. omega arith) in
-        rw (le-ltb q (n * n) h)
+        sym (step6-none n ok working r budget row-prices column-prices h refl)
 
     module _ (near : ltZ best limit ≡ true) where
-      found : ltb (lowest n ok working (r .rows) (r .columns)) (n * n) ≡ true
-      found = lt-ltb _ _ (some-open B n ok limit base working (r .rows) (r .columns) d above b near)
+      found : lowest n ok working (r .rows) (r .columns) < n * n
+      found = some-open B n ok limit base working (r .rows) (r .columns) d above b near
 
       pub keyed-spent : r .adjustments ≡ budget → step6 n ok budget r working row-prices column-prices ≡ (to Unfinished r, working, row-prices, column-prices)
-      unfolding step6
-      keyed-spent e = rw (found, eq-eqb (r .adjustments) budget e)
+      keyed-spent e = sym (step6-spent n ok working r budget row-prices column-prices found e refl)
 
       pub keyed-adjusts : r .adjustments ≢ budget
           → let m = value-of B best -ℤ pos d in
           step6 n ok budget r working row-prices column-prices
           ≡ (adjusting r, followed n ok m (r .rows) (r .columns) working, lowered m (r .rows) row-prices, raised m (r .columns) column-prices)
-      unfolding step6
       keyed-adjusts ne =
-          rw (found, ne-eqb (r .adjustments) budget ne, least-found B n ok limit base working (r .rows) (r .columns) d above b near)
+          sym (step6-adjusts n ok working r budget row-prices column-prices found (value-of B best -ℤ pos d) _ _ _
+          (sym (least-found B n ok limit base working (r .rows) (r .columns) d above b near)) ne refl refl refl refl)

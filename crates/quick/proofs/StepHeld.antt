@@ -48,9 +48,7 @@ module _ {n : ℕ} {costs : List ℤ} {mask : List ℕ} {budget : ℕ} {m : Mach
   abbrev next : Machine
   next = S.step n ok budget m
 
-  -- ---- step 4
-
-  module _ (e : m .run .next ≡ S.Step4) (d : During n ok m risen best key) where
+  module _ (d : During n ok m risen best key) where
     -- by the rise as a natural number
     least : Best 64 n ok limit (m .working) (m .run .rows) (m .run .columns) (pos (d .rise)) best
     least = rw (d .risen-is) at (d .least)
@@ -58,13 +56,16 @@ module _ {n : ℕ} {costs : List ℤ} {mask : List ℕ} {budget : ℕ} {m : Mach
     limited : (i j : ℕ) → i < n → j < n → Open ok (m .run .rows) (m .run .columns) i j → ltZ (key-at 64 n ok limit (m .working) (pos (d .rise)) i j) limit ≡ true
     limited = rw (d .risen-is) at (bounded h d)
 
+  -- ---- step 4
+
+  module _ (e : m .run .next ≡ S.Step4) (d : During n ok m risen best key) where
     -- no zero
     pub none-made : (ltZ best limit ≡ false) → next ≡ machine (to S.Step6 (m .run)) (m .working) (m .marks) (m .row-prices) (m .column-prices)
-    none-made f = sym (arm-4 n ok budget m e (sym (keyed-none 64 n ok limit (h .frame .word .most) (m .working) (m .run) (d .rise) (above h) least (m .marks) limited f)))
+    none-made f = sym (arm-4 n ok budget m e (sym (keyed-none 64 n ok limit (h .frame .word .most) (m .working) (m .run) (d .rise) (above h) (least d) (m .marks) (limited d) f)))
 
     pub above-made : ltZ best limit ≡ true → ltZ risen (value-of 64 best) ≡ true → next ≡ machine (to S.Step6 (m .run)) (m .working) (m .marks) (m .row-prices) (m .column-prices)
     above-made f t =
-        sym (arm-4 n ok budget m e (sym (keyed-above 64 n ok limit (h .frame .word .most) (m .working) (m .run) (d .rise) (above h) least (m .marks) f (rw (d .risen-is) at t))))
+        sym (arm-4 n ok budget m e (sym (keyed-above 64 n ok limit (h .frame .word .most) (m .working) (m .run) (d .rise) (above h) (least d) (m .marks) f (rw (d .risen-is) at t))))
 
     pub held-none : next ≡ machine (to S.Step6 (m .run)) (m .working) (m .marks) (m .row-prices) (m .column-prices)
         → Held n costs mask budget next risen best keys star owner prime key
@@ -95,14 +96,14 @@ module _ {n : ℕ} {costs : List ℤ} {mask : List ℕ} {budget : ℕ} {m : Mach
 
       at : OpenZero n ok (m .working) (m .run .rows) (m .run .columns) i j
       at =
-          let k = least .hit near in
-          let r = row-named 64 n ok limit (h .frame .word .most) (m .working) (m .run .rows) (m .run .columns) (d .rise) (above h) least near in
-          let c = column-named 64 n ok limit (h .frame .word .most) (m .working) (m .run .rows) (m .run .columns) (d .rise) (above h) least near in
+          let k = least d .hit near in
+          let r = row-named 64 n ok limit (h .frame .word .most) (m .working) (m .run .rows) (m .run .columns) (d .rise) (above h) (least d) near in
+          let c = column-named 64 n ok limit (h .frame .word .most) (m .working) (m .run .rows) (m .run .columns) (d .rise) (above h) (least d) near in
           rw (r, c) (record {
             row-below = k .row-below;
             column-below = k .in-row .column-below;
             is-open = k .in-row .is-open;
-            zero = zero-here 64 n ok limit (h .frame .word .most) (m .working) (m .run .rows) (m .run .columns) (d .rise) (above h) least near z0;
+            zero = zero-here 64 n ok limit (h .frame .word .most) (m .working) (m .run .rows) (m .run .columns) (d .rise) (above h) (least d) near z0;
           })
 
       abbrev marked : List ℕ
@@ -116,7 +117,7 @@ module _ {n : ℕ} {costs : List ℤ} {mask : List ℕ} {budget : ℕ} {m : Mach
       lines = lines-primed search i j at (h .lines)
 
       zero-made : next ≡ machine (cond (ltb (star-in-row n marked i) n) (covering i (star-in-row n marked i) (m .run)) (reaching i j (m .run))) (m .working) marked (m .row-prices) (m .column-prices)
-      zero-made = sym (arm-4 n ok budget m e (sym (keyed-zero 64 n ok limit (h .frame .word .most) (m .working) (m .run) (d .rise) (above h) least (m .marks) near z0)))
+      zero-made = sym (arm-4 n ok budget m e (sym (keyed-zero 64 n ok limit (h .frame .word .most) (m .working) (m .run) (d .rise) (above h) (least d) (m .marks) near z0)))
 
       -- in a row without a star
       pub reaches-made : n ≤ getD star i 0 → next ≡ machine (reaching i j (m .run)) (m .working) marked (m .row-prices) (m .column-prices)
@@ -167,15 +168,9 @@ module _ {n : ℕ} {costs : List ℤ} {mask : List ℕ} {budget : ℕ} {m : Mach
   -- ---- step 6
 
   module _ (e : m .run .next ≡ S.Step6) (d : During n ok m risen best key) where
-    least-6 : Best 64 n ok limit (m .working) (m .run .rows) (m .run .columns) (pos (d .rise)) best
-    least-6 = rw (d .risen-is) at (d .least)
-
-    limited-6 : (i j : ℕ) → i < n → j < n → Open ok (m .run .rows) (m .run .columns) i j → ltZ (key-at 64 n ok limit (m .working) (pos (d .rise)) i j) limit ≡ true
-    limited-6 = rw (d .risen-is) at (bounded h d)
-
     pub blocked-made : ltZ best limit ≡ false → next ≡ machine (to S.NoPairing (m .run)) (m .working) (m .marks) (m .row-prices) (m .column-prices)
     blocked-made f =
-        sym (arm-6 n ok budget m e (sym (keyed-blocked 64 n ok limit (h .frame .word .most) (m .working) (m .run) (d .rise) (above h) least-6 budget (m .row-prices) (m .column-prices) limited-6 f)))
+        sym (arm-6 n ok budget m e (sym (keyed-blocked 64 n ok limit (h .frame .word .most) (m .working) (m .run) (d .rise) (above h) (least d) budget (m .row-prices) (m .column-prices) (limited d) f)))
 
     pub held-blocked : ltZ best limit ≡ false → Held n costs mask budget next risen best keys star owner prime key
     held-blocked f = held-next h (blocked-made f) (h .lines) (h .key-long) tt
@@ -183,7 +178,7 @@ module _ {n : ℕ} {costs : List ℤ} {mask : List ℕ} {budget : ℕ} {m : Mach
     module _ (near : ltZ best limit ≡ true) where
       pub spent-made : m .run .adjustments ≡ budget → next ≡ machine (to S.Unfinished (m .run)) (m .working) (m .marks) (m .row-prices) (m .column-prices)
       spent-made q =
-          sym (arm-6 n ok budget m e (sym (keyed-spent 64 n ok limit (h .frame .word .most) (m .working) (m .run) (d .rise) (above h) least-6 budget (m .row-prices) (m .column-prices) near q)))
+          sym (arm-6 n ok budget m e (sym (keyed-spent 64 n ok limit (h .frame .word .most) (m .working) (m .run) (d .rise) (above h) (least d) budget (m .row-prices) (m .column-prices) near q)))
 
       pub held-spent : m .run .adjustments ≡ budget → Held n costs mask budget next risen best keys star owner prime key
       held-spent q = held-next h (spent-made q) (h .lines) (h .key-long) tt
@@ -194,7 +189,7 @@ module _ {n : ℕ} {costs : List ℤ} {mask : List ℕ} {budget : ℕ} {m : Mach
       pub adjusts-made : m .run .adjustments ≢ budget
           → next ≡ machine (adjusting (m .run)) (followed n ok z (m .run .rows) (m .run .columns) (m .working)) (m .marks) (lowered z (m .run .rows) (m .row-prices)) (raised z (m .run .columns) (m .column-prices))
       adjusts-made q =
-          sym (arm-6 n ok budget m e (sym (keyed-adjusts 64 n ok limit (h .frame .word .most) (m .working) (m .run) (d .rise) (above h) least-6 budget (m .row-prices) (m .column-prices) near q)))
+          sym (arm-6 n ok budget m e (sym (keyed-adjusts 64 n ok limit (h .frame .word .most) (m .working) (m .run) (d .rise) (above h) (least d) budget (m .row-prices) (m .column-prices) near q)))
           ∙ ap (λ r. let x = value-of 64 best -ℤ r in
           machine (adjusting (m .run)) (followed n ok x (m .run .rows) (m .run .columns) (m .working)) (m .marks) (lowered x (m .run .rows) (m .row-prices)) (raised x (m .run .columns) (m .column-prices)))
           (sym (d .risen-is))

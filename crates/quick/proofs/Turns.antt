@@ -1,5 +1,5 @@
 -- Each of the code's ways, as a step of the machine that its state shows.
-use mathlib.Core.Path.{_≡_, refl, sym, ap, subst, _∙_}
+use mathlib.Core.Path.{_≡_, refl, sym, ap, _∙_}
 use mathlib.Core.Bool.{true}
 use mathlib.Core.List.{List}
 use Prim.Native.Nat.{ℕ}
@@ -13,15 +13,15 @@ use Rattle.steps.specs.Steps as S
 use Rattle.steps.specs.Steps.{Machine}
 use Rattle.steps.specs.Counts.{over}
 use Rattle.ground.specs.View.{view, view-next}
-use Rattle.ground.specs.declared.run.Next.{Next}
 use Rattle.ground.specs.declared.run.Next.the-variants.{Step3, Step4, Step5, Step6}
 use Rattle.ground.proofs.Arms.{arm-end}
 use Rattle.quick.specs.Keys.{limit}
 use Rattle.quick.specs.Ways.{Primed, passes, covers, reaches, flipped, Adjusted, blocked, spent, adjusts, Crossed, full, part}
-use Rattle.quick.specs.Shown.{Searching, Held, shown, Turned}
+use Rattle.quick.specs.Shown.{Held, shown, Turned}
 use Rattle.quick.specs.declared.step.State.{State}
 use Rattle.quick.proofs.WayLaws.{zero-near, zero-below, zero-above}
 use Rattle.quick.proofs.StepHeld.{none-made, above-made, held-none, reaches-made, held-reaches, covers-made, held-covers, blocked-made, held-blocked, spent-made, held-spent, adjusts-made, held-adjusts, flips-made, held-flips, full-made, held-full, part-made, held-part}
+use Rattle.quick.proofs.HeldLaws.{searching-at}
 use Rattle.quick.proofs.ShownLaws.{shown-is}
 
 module _ {n : ℕ} {costs : List ℤ} {mask : List ℕ} {budget : ℕ} {m : Machine} {keys : List ℤ} {star owner prime : List ℕ} {key : List ℤ} where
@@ -38,9 +38,6 @@ module _ (n : ℕ) (costs : List ℤ) (mask : List ℕ) (budget : ℕ) (s : Stat
   abbrev m : Machine
   m = shown n costs mask (view (s .run)) row-prices column-prices star prime
 
-  searching : (x : Next) → s .run .next ≡ x → Searching (view-next x) n (allows n mask) m (s .risen) (s .best) key
-  searching x e = subst (λ x. Searching (view-next x) n (allows n mask) m (s .risen) (s .best) key) e (h .searching)
-
   pub turned-3 : {r : State} {key′ : List ℤ} → s .run .next ≡ Step3 → length key′ ≡ length key → Crossed n s keys row-prices column-prices star owner r key′
       → Turned n costs mask budget m r keys row-prices column-prices star owner prime key′
   turned-3 {r} e long (full q er) = let a = ap view-next e in turned r (full-made h a q) (sym er) refl refl (held-full h a (r .risen) (r .best) (rw long (h .key-long)) q)
@@ -52,18 +49,18 @@ module _ (n : ℕ) (costs : List ℤ) (mask : List ℕ) (budget : ℕ) (s : Stat
       → Primed n s keys row-prices column-prices star prime key r prime′ key′ → Turned n costs mask budget m r keys row-prices column-prices star owner prime′ key′
   turned-4 {r} e long (passes z g ep ek) =
       let a = ap view-next e in
-      let d = searching Step4 e in
+      let d = searching-at h S.Step4 a in
       let p = by-cases (ltZ (s .best) limit) (λ near. above-made h a d near (zero-above 64 _ _ z near)) (λ far. none-made h a d far) in
       rw (ep, ek) (turned r p (sym (g .run)) refl refl (rw (g .risen, g .best) (held-none h a d p)))
   turned-4 {r} e long (reaches z l er ep ek) =
       let a = ap view-next e in
-      let d = searching Step4 e in
+      let d = searching-at h S.Step4 a in
       let near = zero-near 64 _ _ z in
       let zero = zero-below 64 _ _ z in
       rw (ep, ek) (turned r (reaches-made h a d near zero l) (sym er) refl refl (held-reaches h a d near zero l))
   turned-4 {r} {key′ = key′} e long (covers z l er e1 e2 ep new) =
       let a = ap view-next e in
-      let d = searching Step4 e in
+      let d = searching-at h S.Step4 a in
       let near = zero-near 64 _ _ z in
       let zero = zero-below 64 _ _ z in
       rw ep (turned r (covers-made h a d near zero l) (sym er) refl refl (rw (e1, e2) (held-covers h a d near zero l key′ (rw long (h .key-long)) new)))
@@ -79,15 +76,15 @@ module _ (n : ℕ) (costs : List ℤ) (mask : List ℕ) (budget : ℕ) (s : Stat
       → Turned n costs mask budget m r keys row-prices′ column-prices′ star owner prime key
   turned-6 {r} e (blocked f g ep ec) =
       let a = ap view-next e in
-      let d = searching Step6 e in
+      let d = searching-at h S.Step6 a in
       turned r (blocked-made h a d f) (sym (g .run)) (sym ep) (sym ec) (rw (g .risen, g .best) (held-blocked h a d f))
   turned-6 {r} e (spent near q g ep ec) =
       let a = ap view-next e in
-      let d = searching Step6 e in
+      let d = searching-at h S.Step6 a in
       turned r (spent-made h a d near q) (sym (g .run)) (sym ep) (sym ec) (rw (g .risen, g .best) (held-spent h a d near q))
   turned-6 {r} e (adjusts near q er e1 e2 ep ec) =
       let a = ap view-next e in
-      let d = searching Step6 e in
+      let d = searching-at h S.Step6 a in
       turned r (adjusts-made h a d near q) (sym er) (sym ep) (sym ec) (rw (e1, e2) (held-adjusts h a d near q))
 
   -- at an end nothing moves

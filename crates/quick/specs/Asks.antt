@@ -98,12 +98,6 @@ pub record WritesMarks (n : ℕ) (star prime marks : List ℕ) : Type 0 where
 
 -- ---- prices and working values
 
-pub record ForRowPrices (n : ℕ) (costs : List ℤ) (mask : List ℕ) (row-prices : List ℤ) : Type 0 where
-  pub costs-square : Square n costs
-  pub mask-square : Square n mask
-  pub row-lines : length row-prices ≡ n
-  pub rows : (i : ℕ) → i < n → T (any (allows n mask i) n)
-
 pub record WritesRow (n : ℕ) (costs : List ℤ) (mask : List ℕ) (row : ℕ) (price : ℤ) (column-prices working : List ℤ) : Type 0 where
   pub costs-square : Square n costs
   pub mask-square : Square n mask

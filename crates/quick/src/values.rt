@@ -10,8 +10,9 @@ ghost use Rattle.lines.specs.Square.{table, each-row};
 ghost use Rattle.lines.specs.Bounds.{Within};
 ghost use Rattle.steps.specs.Lent.{allows, cost-at};
 ghost use Rattle.steps.specs.Steps.{row-price};
+ghost use Rattle.ground.specs.Prices.{ForRowPrices};
 ghost use Rattle.quick.specs.Shown.{working-of};
-ghost use Rattle.quick.specs.Asks.{ForRowPrices, WritesRow, WritesWorking};
+ghost use Rattle.quick.specs.Asks.{WritesRow, WritesWorking};
 use ground::prices;
 
 pub(crate) fn difference(x: i64, y: i64) -> i64

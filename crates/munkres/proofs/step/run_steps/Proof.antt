@@ -17,6 +17,19 @@ abbrev μ-loop : tie.MeasureT-loop
 μ-loop n mask budget working₀ marks₀ row-prices₀ column-prices₀ state₀ working marks row-prices column-prices state =
     left n (allows n mask) (machine (view state) working marks row-prices column-prices)
 
+-- ---- places: the call of a step, and the loop that it is in
+
+abbrev stepped : tie.After-column-prices Inv-loop μ-loop → tie.After-step Inv-loop μ-loop
+stepped c = c .before .before .before .before .before
+
+abbrev going : tie.After-step-arg4 Inv-loop μ-loop → tie.Else1 Inv-loop μ-loop
+going c = c .before .before .before .before
+
+abbrev at-loop : tie.Else1 Inv-loop μ-loop → tie.At-loop Inv-loop μ-loop
+at-loop c = c .before .before
+
+-- ---- what the loop asks
+
 loop-holds : tie.Need-loop-holds Inv-loop μ-loop
 loop-holds c = coming-here (c .before .before .pre)
 
@@ -38,28 +51,17 @@ same-length-4 c = omega arith
 returns : tie.Need-returns Inv-loop μ-loop
 returns c = came (c .before .before .loop .inv) (sym (c .before .is-over .ensures) ∙ c .if1 .taken)
 
--- ---- a turn: the loop's test, the step, and the buffers after it
-
-abbrev going-on : tie.After-step-arg4 Inv-loop μ-loop → tie.Else1 Inv-loop μ-loop
-going-on c = c .before .before .before .before
-
-abbrev at-test : tie.Else1 Inv-loop μ-loop → tie.At-loop Inv-loop μ-loop
-at-test c = c .before .before
-
-abbrev stepped : tie.After-column-prices Inv-loop μ-loop → tie.After-step Inv-loop μ-loop
-stepped c = c .before .before .before .before .before
-
 step-requires : tie.Need-step-requires Inv-loop μ-loop
-step-requires c κs = at-test (going-on c) .loop .inv .good
+step-requires c κs = at-loop (going c) .loop .inv .good
 
 loop-less : tie.Need-loop-less Inv-loop μ-loop
 loop-less c =
-    let turn = stepped c in
-    let on = going-on (turn .before) in
-    coming-falls (turn .step .ensures) (at-test on .loop .inv) (sym (on .before .is-over .ensures) ∙ on .if1 .left)
+    let step = stepped c in
+    let here = going (step .before) in
+    coming-falls (step .step .ensures) (at-loop here .loop .inv) (sym (here .before .is-over .ensures) ∙ here .if1 .left)
 
 loop-again : tie.Need-loop-again Inv-loop μ-loop
-loop-again c = let turn = stepped c in coming-next (turn .step .ensures) (at-test (going-on (turn .before)) .loop .inv)
+loop-again c = let step = stepped c in coming-next (step .step .ensures) (at-loop (going (step .before)) .loop .inv)
 
 pub run-steps-spec : {M : Type 1} → statement M
 run-steps-spec =

@@ -27,7 +27,7 @@ loop-holds c = (search needs, rows-none _ _ _ _, passed-none _ _ _)
 price-of-row-requires : tie.Need-price-of-row-requires Inv-loop μ-loop
 price-of-row-requires c κs =
     let pre = c .before .before .before .pre in
-    record { costs-square = pre .0; mask-square = pre .1; below = search needs }
+    record { costs-square = pre .prices .costs-square; mask-square = pre .prices .mask-square; below = search needs }
 
 mul-price : tie.Need-mul-price Inv-loop μ-loop
 mul-price c = search needs
@@ -38,13 +38,12 @@ slice-set-from-price c = search needs
 sub-row-requires : tie.Need-sub-row-requires Inv-loop μ-loop
 sub-row-requires c κs =
     let s = c .before .before .before .before .before in
-    let p = c .before .price-of-row in (
-      search needs,
-      search needs,
-      c .before .before .before .loop .inv .1 .rows .long ∙ s .pre .2,
-      search needs,
-      rw (back64 (p .result) (p .ok)) (p .ensures .1),
-    )
+    let p = c .before .price-of-row in
+    record {
+      in-row = record { costs-square = s .pre .prices .costs-square; mask-square = s .pre .prices .mask-square; below = search needs };
+      working-square = c .before .before .before .loop .inv .1 .rows .long ∙ s .pre .working-square;
+      small = rw (back64 (p .result) (p .ok)) (p .ensures .1);
+    }
 
 add-row : tie.Need-add-row Inv-loop μ-loop
 add-row c = search needs
@@ -58,9 +57,9 @@ loop-again c =
     let s = c .before .before .before .before .before .before .before in
     let l = c .before .before .before .before .before .loop in
     let p = c .before .before .before .price-of-row in
-    let e = back64 (p .result) (p .ok) ∙ p .ensures .0 ∙ priced _ (allows _ _) (cost-at _ _) _ (s .pre .4 _ (omega arith)) in (
+    let e = back64 (p .result) (p .ok) ∙ p .ensures .0 ∙ priced _ (allows _ _) (cost-at _ _) _ (s .pre .prices .rows _ (omega arith)) in (
       search needs,
-      rows-more _ _ _ _ _ _ _ _ (s .pre .2) (omega arith) (λ j x. rw e) (c .before .sub-row .ensures) (l .inv .1),
+      rows-more _ _ _ _ _ _ _ _ (s .pre .working-square) (omega arith) (λ j x. rw e) (c .before .sub-row .ensures) (l .inv .1),
       passed-store _ _ _ _ _ _ (omega arith) e (l .inv .2),
     )
 

@@ -26,10 +26,10 @@ abbrev μ-loop : tie.MeasureT-loop
 μ-loop n costs mask row price working₀ start column₀ working column = n - column
 
 mul-start : tie.Need-mul-start Inv-loop μ-loop
-mul-start c = let f = row-end _ _ (c .pre .3) in omega arith
+mul-start c = let f = row-end _ _ (c .pre .in-row .below) in omega arith
 
 loop-holds : tie.Need-loop-holds Inv-loop μ-loop
-loop-holds c = (row-end _ _ (c .pre .3), search needs, row-none _ _ _ _ _ (c .pre .3))
+loop-holds c = (row-end _ _ (c .pre .in-row .below), search needs, row-none _ _ _ _ _ (c .pre .in-row .below))
 
 add-place : tie.Need-add-place Inv-loop μ-loop
 add-place c = search needs
@@ -51,7 +51,7 @@ unfolding cost-at
 sub-working c =
     let s = c .before .before .before .before .before in
     let a = s .args in
-    excess-fits (cost-at (a .n) (a .costs .now) (a .row) (c .before .before .before .before .loop .column)) (a .price) (c .working .given) (s .pre .4)
+    excess-fits (cost-at (a .n) (a .costs .now) (a .row) (c .before .before .before .before .loop .column)) (a .price) (c .working .given) (s .pre .small)
 
 mul-t18 : tie.Need-mul-t18 Inv-loop μ-loop
 mul-t18 c = search needs
@@ -84,7 +84,7 @@ loop-again c =
       search needs,
       cases (c .if1 .came)
           (λ w. rw (w .2) (row-store _ _ _ _ _ _ _ _ (omega arith) (omega arith)
-          (excess-back x (a .price) (w .1 .given) (s .pre .4) ∙ rw (ok (w .0 .taken))) (l .inv .2)))
+          (excess-back x (a .price) (w .1 .given) (s .pre .small) ∙ rw (ok (w .0 .taken))) (l .inv .2)))
           (λ w. rw (w .1) (row-store _ _ _ _ _ _ _ _ (omega arith) (omega arith) (rw (no-ok (w .0 .left))) (l .inv .2))),
     )
 
@@ -94,7 +94,7 @@ same-length c = search needs
 returns : tie.Need-returns Inv-loop μ-loop
 returns c =
     let s = c .before .before in
-    rw (toZ-ofZ (s .fits .price)) at (row-all _ _ _ _ _ _ _ (s .pre .3) (omega arith) (c .before .loop .inv .2))
+    rw (toZ-ofZ (s .fits .price)) at (row-all _ _ _ _ _ _ _ (s .pre .in-row .below) (omega arith) (c .before .loop .inv .2))
 
 pub sub-row-spec : {M : Type 1} → statement M
 sub-row-spec =
