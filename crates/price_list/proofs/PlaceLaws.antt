@@ -1,9 +1,11 @@
 -- The places of cells and prices lie in their buffers.
 use mathlib.Core.List.{List}
-use Prim.Native.Nat.{ℕ, _+_, _*_, _≤_, _<_}
+use Prim.Native.Nat.{ℕ, _+_, _*_, _/_, _%_, _≤_, _<_}
 use native.Mathlib.Omega.{arith}
 use lib.ListN.{getD}
+use Rattle.lines.proofs.Squares.{place-in}
 use Rattle.lines.proofs.Bounds.{row-fits}
+use Rattle.storm_case.proofs.Fronts.{cells-fit}
 use Rattle.price_list.specs.Listed.{Listed, InList}
 
 pub record Place (n row event : ℕ) : Type 0 where
@@ -21,3 +23,13 @@ cell-place {n} {row} {event} h = place-fits n row event (h .small) (h .row-below
 
 pub pair-place : {n : ℕ} {columns : List ℕ} → Listed n columns → (row : ℕ) → row < n → Place n row (getD columns row 0)
 pair-place {n} {columns} p row h = place-fits n row (getD columns row 0) (p .small) h (p .below row h)
+
+-- a place of the square lies in its buffer, and is that of a row and an event
+pub cell-inside : (n place : ℕ) → n ≤ 64 → place < n * n → place < 4096
+cell-inside n place small h = omega (arith, cells-fit {n = n} small)
+
+pub cell-some : (n place : ℕ) → place < n * n → 0 < n
+cell-some n place h = omega (arith, place-in n place h .0)
+
+pub cell-listed : (n place : ℕ) → n ≤ 64 → place < n * n → InList n (place / n) (place % n)
+cell-listed n place small h = record { small = small; row-below = place-in n place h .0; event-below = place-in n place h .1 }

@@ -1,2 +1,5 @@
 pub mod Listed
 pub mod Lines
+pub mod List
+pub mod Block
+pub mod Report

@@ -1,12 +1,13 @@
 -- The lines of the price list. Numbers stand at the right end of their column, and signs between the columns keep long ones apart.
+use mathlib.Core.Bool.{cond}
 use mathlib.Core.List.{List, [], _∷_, _++_}
 use Prim.Native.Nat.{ℕ}
+use lib.Dec.{eqb}
 use lib.IntN.{ℤ, pos}
 use lib.ListN.{getD}
 use Rattle.lines.specs.Square.{cell}
-use Rattle.storm_case.specs.Case.{hut}
+use Rattle.text.specs.Ascii.{ascii}
 use Rattle.text.specs.Numbers.{decimal, signed, blanks, right}
-use Rattle.price_list.specs.Listed.{hut-number}
 
 abbrev pub is : List ℕ
 is = 32 ∷ 61 ∷ 32 ∷ []
@@ -44,13 +45,22 @@ allowed-line row event difference row-price event-price spare =
 unfoldable pub hut-line : ℕ → ℕ → List ℕ
 hut-line row hut = right 5 (decimal row) ++ right 7 (decimal hut) ++ (10 ∷ [])
 
--- ---- the same of a file and what `pair_case` wrote
+-- ---- words
+
+unfoldable pub plural : ℕ → List ℕ
+plural count = cond (eqb count 1) [] (ascii "s")
+
+-- as `1 event` and `2 events`
+unfoldable pub counted : ℕ → List ℕ → List ℕ
+counted count thing = decimal count ++ ascii " " ++ thing ++ plural count
+
+-- ---- the same of the huts and what `pair_case` wrote
 
 -- a row of the pairing
 unfoldable pub pair-of : List ℕ → ℕ → List ℤ → List ℕ → List ℤ → List ℤ → ℕ → List ℕ
-pair-of file n costs columns row-prices column-prices row =
+pair-of huts n costs columns row-prices column-prices row =
     let event = getD columns row 0 in
-    pair-line row (hut-number (hut file row)) event (cell (pos 0) n costs row event) (getD row-prices row (pos 0)) (getD column-prices event (pos 0))
+    pair-line row (getD huts row 0) event (cell (pos 0) n costs row event) (getD row-prices row (pos 0)) (getD column-prices event (pos 0))
 
 -- a row and an event that may be paired
 unfoldable pub allowed-of : ℕ → List ℤ → List ℤ → List ℤ → List ℤ → ℕ → ℕ → List ℕ

@@ -1,4 +1,4 @@
--- What the lists go by: at most 64 rows, each with a column below n; the hut of a row; sums that 64 bits hold.
+-- What the lists go by: at most 64 rows, each with a column below n; sums that 64 bits hold.
 use mathlib.Core.Path.{_≡_}
 use mathlib.Core.List.{List}
 use Prim.Native.Nat.{ℕ, _≤_, _<_}
@@ -7,8 +7,6 @@ use lib.ListN.{getD}
 use mir.Syntax.{w64}
 use mir.Val.{SFits}
 use Rattle.lines.specs.Sum.{sumℤ}
-use Rattle.storm_case.specs.declared.Hut.{Hut}
-use Rattle.storm_case.specs.declared.Hut.the-variants.{At, Absent}
 
 pub record Listed (n : ℕ) (columns : List ℕ) : Type 0 where
   pub small : n ≤ 64
@@ -19,11 +17,6 @@ pub record InList (n row event : ℕ) : Type 0 where
   pub small : n ≤ 64
   pub row-below : row < n
   pub event-below : event < n
-
--- 0 where there is none, which is not so in an accepted file
-abbrev pub hut-number : Hut → ℕ
-hut-number (At hut) = hut
-hut-number Absent = 0
 
 -- the sum, where 64 bits hold it
 abbrev pub Sum : ℤ → ℤ → ℤ → Type 0

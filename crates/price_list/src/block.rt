@@ -1,105 +1,161 @@
 // Why there is no pairing, in words: the fragments of the block, the events that are left for them, and the events of the block.
-ghost use Prim.Native.Nat.{_≤_};
+ghost use mathlib.Core.Path.{_≡_};
+ghost use Prim.Native.Nat.{_≤_, _<_};
+ghost use Rattle.text.specs.Text.{put};
+ghost use Rattle.price_list.specs.Block.{these, block-row, block-rows, named as Block·named, event-word, event-words, left-words, end-words, block};
 use crate::numbers;
 use crate::row;
 use crate::words;
-use storm_case::Pairs;
 
 // One thing as `this event`, more as `these 2 events`.
-fn print_these(count: usize, one: &[u8], more: &[u8], thing: &[u8]) {
+fn put_these(
+    out: &mut [u8],
+    used: usize,
+    count: usize,
+    one: &[u8],
+    more: &[u8],
+    thing: &[u8],
+) -> usize
+    ensures { λ r. ⌜ (r, now (out .exit)) ≡ put (now (out .entry)) used (these count (now (one .entry)) (now (more .entry)) (now (thing .entry))) ⌝ }
+{
     if count == 1 {
-        words::print(one);
-        words::print(thing);
-        return;
+        let after_one = text::put(out, used, one);
+        return text::put(out, after_one, thing);
     }
-    words::print(more);
-    words::print_counted(count, thing);
+    let after_more = text::put(out, used, more);
+    words::put_counted(out, after_more, count, thing)
 }
 
-fn print_hut(row: usize, hut: u16) {
-    let mut line = [0u8; 64];
-    let used = row::put_hut(&mut line, row, hut);
-    words::print(&line[..used]);
+// The line of a row, where the set has it.
+fn put_block_row(out: &mut [u8], used: usize, rows: u64, row: usize, hut: u16) -> usize
+    requires { ⌜ row < 64 ⌝ }
+    ensures { λ r. ⌜ (r, now (out .exit)) ≡ put (now (out .entry)) used (block-row rows row hut) ⌝ }
+{
+    if lines::has(rows, row) {
+        return row::put_hut(out, used, row, hut);
+    }
+    text::put(out, used, b"")
 }
 
 // The rows of the set, with their huts.
-fn print_rows(file: &[u8], n: usize, rows: u64)
+fn put_block_rows(out: &mut [u8], used: usize, n: usize, rows: u64, huts: &[u16; 64]) -> usize
     requires { ⌜ n ≤ 64 ⌝ }
+    ensures { λ r. ⌜ (r, now (out .exit)) ≡ put (now (out .entry)) used (block-rows n rows (now (huts .entry))) ⌝ }
 {
-    words::print(b"  row    hut\n");
+    let mut at = text::put(out, used, b"  row    hut\n");
     let mut row = 0;
     while row < n {
-        if lines::has(rows, row) {
-            print_hut(row, row::hut_of(file, row));
-        }
+        at = put_block_row(out, at, rows, row, huts[row]);
         row += 1;
     }
+    at
+}
+
+// Among those that the set has, or among those that it has not?
+fn named(events: u64, inside: bool, event: usize) -> bool
+    requires { ⌜ event < 64 ⌝ }
+    ensures { λ r. ⌜ r ≡ Block·named events inside event ⌝ }
+{
+    if inside {
+        return lines::has(events, event);
+    }
+    !lines::has(events, event)
+}
+
+fn put_event_word(out: &mut [u8], used: usize, shown: bool, event: usize) -> usize
+    ensures { λ r. ⌜ (r, now (out .exit)) ≡ put (now (out .entry)) used (event-word shown event) ⌝ }
+{
+    if shown {
+        let after_blank = text::put(out, used, b" ");
+        return text::put_decimal(out, after_blank, event as u64);
+    }
+    text::put(out, used, b"")
 }
 
 // The events that the set has, or those that it has not.
-fn print_events(n: usize, events: u64, wanted: bool)
+fn put_event_words(out: &mut [u8], used: usize, n: usize, events: u64, inside: bool) -> usize
     requires { ⌜ n ≤ 64 ⌝ }
+    ensures { λ r. ⌜ (r, now (out .exit)) ≡ put (now (out .entry)) used (event-words n events inside) ⌝ }
 {
-    words::print(b":");
+    let mut at = text::put(out, used, b":");
     let mut event = 0;
     while event < n {
-        if lines::has(events, event) == wanted {
-            words::print(b" ");
-            words::print_number(event as u64);
-        }
+        at = put_event_word(out, at, named(events, inside, event), event);
         event += 1;
     }
-    words::print(b"\n");
+    text::put(out, at, b"\n")
 }
 
 // The events outside the block.
-fn print_left(n: usize, events: u64, left: usize)
+fn put_left(out: &mut [u8], used: usize, n: usize, events: u64, left: usize) -> usize
     requires { ⌜ n ≤ 64 ⌝ }
+    ensures { λ r. ⌜ (r, now (out .exit)) ≡ put (now (out .entry)) used (left-words n events left) ⌝ }
 {
     if left == 0 {
-        words::print(b"may be paired with no event,\n");
-        return;
+        return text::put(out, used, b"may be paired with no event,\n");
     }
-    words::print(b"may be paired only with ");
-    words::print_counted(left, b"event");
-    print_events(n, events, false);
+    let after_words = text::put(out, used, b"may be paired only with ");
+    let after_count = words::put_counted(out, after_words, left, b"event");
+    put_event_words(out, after_count, n, events, false)
 }
 
-fn print_end(rows: usize, left: usize) {
-    if left == 0 {
-        words::print(b"So no pairing exists.\n");
-        return;
-    }
-    words::print_counted(rows, b"fragment");
-    words::print(b" cannot share ");
-    words::print_counted(left, b"event");
-    words::print(b", so no pairing exists.\n");
-}
-
-pub(crate) fn print_block(file: &[u8], pairs: Pairs)
-    requires { ⌜ pairs .n ≤ 64 ⌝ }
+fn put_end(out: &mut [u8], used: usize, rows: usize, left: usize) -> usize
+    ensures { λ r. ⌜ (r, now (out .exit)) ≡ put (now (out .entry)) used (end-words rows left) ⌝ }
 {
-    let n = pairs.n;
-    let rows = pairs.block_rows;
-    let events = pairs.block_columns;
+    if left == 0 {
+        return text::put(out, used, b"So no pairing exists.\n");
+    }
+    let after_rows = words::put_counted(out, used, rows, b"fragment");
+    let after_words = text::put(out, after_rows, b" cannot share ");
+    let after_left = words::put_counted(out, after_words, left, b"event");
+    text::put(out, after_left, b", so no pairing exists.\n")
+}
+
+pub(crate) fn put_block(
+    out: &mut [u8],
+    n: usize,
+    window: u32,
+    rows: u64,
+    events: u64,
+    huts: &[u16; 64],
+) -> usize
+    requires { ⌜ n ≤ 64 ⌝ }
+    ensures { λ r. ⌜ (r, now (out .exit)) ≡ put (now (out .entry)) 0 (block n window rows events (now (huts .entry))) ⌝ }
+{
     let row_count = numbers::count(n, rows);
     let event_count = numbers::count(n, events);
     let left = numbers::count_others(n, events);
-    words::print(b"NO PAIRING\n");
-    print_these(row_count, b"This ", b"These ", b"fragment");
-    words::print(b":\n");
-    print_rows(file, n, rows);
-    print_left(n, events, left);
-    print_these(
+    let after_title = text::put(out, 0, b"NO PAIRING\n");
+    let after_these = put_these(
+        out,
+        after_title,
+        row_count,
+        b"This ",
+        b"These ",
+        b"fragment",
+    );
+    let after_colon = text::put(out, after_these, b":\n");
+    let after_rows = put_block_rows(out, after_colon, n, rows, huts);
+    let after_left = put_left(out, after_rows, n, events, left);
+    let after_since = put_these(
+        out,
+        after_left,
         row_count,
         b"since this ",
         b"since each of these ",
         b"fragment",
     );
-    print_these(event_count, b" and this ", b" and each of these ", b"event");
-    print_events(n, events, true);
-    words::print(b"differ in area or lie more than ");
-    words::print_number(pairs.window as u64);
-    words::print(b" ms apart.\n");
-    print_end(row_count, left);
+    let after_and = put_these(
+        out,
+        after_since,
+        event_count,
+        b" and this ",
+        b" and each of these ",
+        b"event",
+    );
+    let after_events = put_event_words(out, after_and, n, events, true);
+    let after_differ = text::put(out, after_events, b"differ in area or lie more than ");
+    let after_window = text::put_decimal(out, after_differ, window as u64);
+    let after_apart = text::put(out, after_window, b" ms apart.\n");
+    put_end(out, after_apart, row_count, left)
 }

@@ -1,27 +1,33 @@
 // The price list of a pairing: each pair with its prices, their sums, and every allowed pair, so that each line adds up by hand.
 ghost use mathlib.Core.Path.{_≡_};
-ghost use Prim.Native.Nat.{_≤_, _<_};
+ghost use Prim.Native.Nat.{_*_, _≤_, _<_};
 ghost use Rattle.text.specs.Text.{put};
 ghost use Rattle.price_list.specs.Listed.{Listed, InList};
 ghost use Rattle.price_list.specs.Lines.{pair-of, allowed-of};
-use crate::numbers;
+ghost use Rattle.price_list.specs.List.{size-lines, pair-lines, event-price-lines, total-line, sum-words, reason, cell-line, every-pair, list};
 use crate::row;
 use crate::words;
-use storm_case::Pairs;
 
-fn print_size(n: usize, window: u32) {
-    words::print(b"PRICE LIST\n");
-    words::print_counted(n, b"fragment");
-    words::print(b", ");
-    words::print_counted(n, b"event");
-    words::print(b", clocks at most ");
-    words::print_number(window as u64);
-    words::print(b" ms apart; differences and prices in ms\n\n");
+// The title, and how large the case is.
+fn put_size(out: &mut [u8], used: usize, n: usize, window: u32) -> usize
+    ensures { λ r. ⌜ (r, now (out .exit)) ≡ put (now (out .entry)) used (size-lines n window) ⌝ }
+{
+    let after_title = text::put(out, used, b"PRICE LIST\n");
+    let after_rows = words::put_counted(out, after_title, n, b"fragment");
+    let after_comma = text::put(out, after_rows, b", ");
+    let after_events = words::put_counted(out, after_comma, n, b"event");
+    let after_words = text::put(out, after_events, b", clocks at most ");
+    let after_window = text::put_decimal(out, after_words, window as u64);
+    text::put(
+        out,
+        after_window,
+        b" ms apart; differences and prices in ms\n\n",
+    )
 }
 
 // The line of a row of the pairing.
 fn put_pair_of(
-    file: &[u8],
+    huts: &[u16; 64],
     n: usize,
     costs: &[i32; 4096],
     columns: &[u16; 64],
@@ -29,17 +35,19 @@ fn put_pair_of(
     column_prices: &[i64; 64],
     row: usize,
     out: &mut [u8],
+    used: usize,
 ) -> usize
     requires { ⌜ Listed n (now columns) × (row < n) ⌝ }
-    ensures { λ r. ⌜ (r, now (out .exit)) ≡ put (now (out .entry)) 0 (pair-of (now (file .entry)) n (now (costs .entry)) (now (columns .entry))
+    ensures { λ r. ⌜ (r, now (out .exit)) ≡ put (now (out .entry)) used (pair-of (now (huts .entry)) n (now (costs .entry)) (now (columns .entry))
         (now («row_prices» .entry)) (now («column_prices» .entry)) row) ⌝ }
 {
     let event = columns[row] as usize;
     let place = row * n + event;
     let difference = costs[place] as i64;
-    let hut = row::hut_of(file, row);
+    let hut = huts[row];
     row::put_pair(
         out,
+        used,
         row,
         hut,
         event,
@@ -49,82 +57,103 @@ fn put_pair_of(
     )
 }
 
-fn print_pairs(
-    file: &[u8],
+// The pairs, and their sums.
+fn put_pairs(
+    huts: &[u16; 64],
     n: usize,
     costs: &[i32; 4096],
     columns: &[u16; 64],
     row_prices: &[i64; 64],
     column_prices: &[i64; 64],
-)
+    out: &mut [u8],
+    used: usize,
+) -> usize
     requires { ⌜ Listed n (now columns) ⌝ }
+    ensures { λ r. ⌜ (r, now (out .exit)) ≡ put (now (out .entry)) used (pair-lines (now (huts .entry)) n (now (costs .entry)) (now (columns .entry))
+        (now («row_prices» .entry)) (now («column_prices» .entry))) ⌝ }
 {
-    words::print(b"  row    hut  event   difference =     row price +   event price\n");
-    let mut line = [0u8; 128];
+    let mut at = text::put(
+        out,
+        used,
+        b"  row    hut  event   difference =     row price +   event price\n",
+    );
     let mut row = 0;
     while row < n {
-        let used = put_pair_of(
-            file,
+        at = put_pair_of(
+            huts,
             n,
             costs,
             columns,
             row_prices,
             column_prices,
             row,
-            &mut line,
+            out,
+            at,
         );
-        words::print(&line[..used]);
         row += 1;
     }
+    at
 }
 
-fn print_sums(total: i64, row_prices: i64, event_prices: i64) {
-    let mut line = [0u8; 128];
-    let used = row::put_sums(&mut line, total, row_prices, event_prices);
-    words::print(&line[..used]);
-}
-
-fn print_price(event: usize, price: i64) {
-    let mut line = [0u8; 64];
-    let used = row::put_price(&mut line, event, price);
-    words::print(&line[..used]);
-}
-
-fn print_price_sum(sum: i64) {
-    let mut line = [0u8; 64];
-    let used = row::put_price_sum(&mut line, sum);
-    words::print(&line[..used]);
-}
-
-// The price of every event, in their order.
-fn print_event_prices(n: usize, column_prices: &[i64; 64], sum: i64)
+// The price of every event, in their order, and their sum.
+fn put_event_prices(
+    n: usize,
+    column_prices: &[i64; 64],
+    sum: i64,
+    out: &mut [u8],
+    used: usize,
+) -> usize
     requires { ⌜ n ≤ 64 ⌝ }
+    ensures { λ r. ⌜ (r, now (out .exit)) ≡ put (now (out .entry)) used (event-price-lines n (now («column_prices» .entry)) sum) ⌝ }
 {
-    words::print(b"\nevent     event price\n");
+    let mut at = text::put(out, used, b"\nevent     event price\n");
     let mut event = 0;
     while event < n {
-        print_price(event, column_prices[event]);
+        at = row::put_price(out, at, event, column_prices[event]);
         event += 1;
     }
-    print_price_sum(sum);
+    row::put_price_sum(out, at, sum)
+}
+
+fn put_total(out: &mut [u8], used: usize, total: i64) -> usize
+    ensures { λ r. ⌜ (r, now (out .exit)) ≡ put (now (out .entry)) used (total-line total) ⌝ }
+{
+    let after_word = text::put(out, used, b"\nTOTAL ");
+    let after_total = text::put_signed(out, after_word, total);
+    text::put(out, after_total, b"\n")
+}
+
+// As `400 + 400 = 800`.
+fn put_sum(out: &mut [u8], used: usize, total: i64, row_prices: i64, event_prices: i64) -> usize
+    ensures { λ r. ⌜ (r, now (out .exit)) ≡ put (now (out .entry)) used (sum-words total «row_prices» «event_prices») ⌝ }
+{
+    let after_rows = text::put_signed(out, used, row_prices);
+    let after_plus = text::put(out, after_rows, b" + ");
+    let after_events = text::put_signed(out, after_plus, event_prices);
+    let after_is = text::put(out, after_events, b" = ");
+    text::put_signed(out, after_is, total)
 }
 
 // That no pairing costs less.
-fn print_reason(total: i64, row_prices: i64, event_prices: i64) {
-    words::print(b"\nTOTAL ");
-    words::print_signed(total);
-    words::print(
-        b"\n\nWhy no pairing costs less: the list below has every allowed pair, and no spare is negative.\n",
+fn put_reason(out: &mut [u8], used: usize, total: i64, row_prices: i64, event_prices: i64) -> usize
+    ensures { λ r. ⌜ (r, now (out .exit)) ≡ put (now (out .entry)) used (reason total «row_prices» «event_prices») ⌝ }
+{
+    let after_why = text::put(
+        out,
+        used,
+        b"\nWhy no pairing costs less: the list below has every allowed pair, and no spare is negative.\n",
     );
-    words::print(
+    let after_since = text::put(
+        out,
+        after_why,
         b"A pairing takes every row once and every event once, so it costs at least all prices together,\n",
     );
-    words::print_signed(row_prices);
-    words::print(b" + ");
-    words::print_signed(event_prices);
-    words::print(b" = ");
-    words::print_signed(total);
-    words::print(b". The pairing above costs exactly that.\n\n");
+    let after_sum = put_sum(out, after_since, total, row_prices, event_prices);
+    text::put(
+        out,
+        after_sum,
+        b". The pairing above costs exactly that.\n\n",
+    )
 }
 
 // The line of a row and an event that may be paired.
@@ -137,15 +166,17 @@ fn put_allowed_of(
     row: usize,
     event: usize,
     out: &mut [u8],
+    used: usize,
 ) -> usize
     requires { ⌜ InList n row event ⌝ }
-    ensures { λ r. ⌜ (r, now (out .exit)) ≡ put (now (out .entry)) 0 (allowed-of n (now (costs .entry)) (now (working .entry))
+    ensures { λ r. ⌜ (r, now (out .exit)) ≡ put (now (out .entry)) used (allowed-of n (now (costs .entry)) (now (working .entry))
         (now («row_prices» .entry)) (now («column_prices» .entry)) row event) ⌝ }
 {
     let place = row * n + event;
     let difference = costs[place] as i64;
     row::put_allowed(
         out,
+        used,
         row,
         event,
         difference,
@@ -155,77 +186,120 @@ fn put_allowed_of(
     )
 }
 
-// The allowed pairs of a row.
-fn print_row(
+// The line of a cell, where its pair is allowed.
+fn put_cell(
     n: usize,
-    row: usize,
     costs: &[i32; 4096],
     mask: &[u8; 4096],
     working: &[i64; 4096],
     row_prices: &[i64; 64],
     column_prices: &[i64; 64],
-)
-    requires { ⌜ (n ≤ 64) × (row < n) ⌝ }
+    place: usize,
+    out: &mut [u8],
+    used: usize,
+) -> usize
+    requires { ⌜ (n ≤ 64) × (place < n * n) ⌝ }
+    ensures { λ r. ⌜ (r, now (out .exit)) ≡ put (now (out .entry)) used (cell-line n (now (costs .entry)) (now (mask .entry)) (now (working .entry))
+        (now («row_prices» .entry)) (now («column_prices» .entry)) place) ⌝ }
 {
-    let start = row * n;
-    let mut line = [0u8; 128];
-    let mut event = 0;
-    while event < n {
-        if mask[start + event] == 1 {
-            let used = put_allowed_of(
-                n,
-                costs,
-                working,
-                row_prices,
-                column_prices,
-                row,
-                event,
-                &mut line,
-            );
-            words::print(&line[..used]);
-        }
-        event += 1;
+    if mask[place] == 1 {
+        return put_allowed_of(
+            n,
+            costs,
+            working,
+            row_prices,
+            column_prices,
+            place / n,
+            place % n,
+            out,
+            used,
+        );
     }
+    text::put(out, used, b"")
 }
 
-fn print_every_pair(
+// Every allowed pair, row by row.
+fn put_every_pair(
     n: usize,
     costs: &[i32; 4096],
     mask: &[u8; 4096],
     working: &[i64; 4096],
     row_prices: &[i64; 64],
     column_prices: &[i64; 64],
-)
+    out: &mut [u8],
+    used: usize,
+) -> usize
     requires { ⌜ n ≤ 64 ⌝ }
+    ensures { λ r. ⌜ (r, now (out .exit)) ≡ put (now (out .entry)) used (every-pair n (now (costs .entry)) (now (mask .entry)) (now (working .entry))
+        (now («row_prices» .entry)) (now («column_prices» .entry))) ⌝ }
 {
-    words::print(b"  row  event   difference =     row price +   event price +         spare\n");
-    let mut row = 0;
-    while row < n {
-        print_row(n, row, costs, mask, working, row_prices, column_prices);
-        row += 1;
+    let mut at = text::put(
+        out,
+        used,
+        b"  row  event   difference =     row price +   event price +         spare\n",
+    );
+    let cells = n * n;
+    let mut place = 0;
+    while place < cells {
+        at = put_cell(
+            n,
+            costs,
+            mask,
+            working,
+            row_prices,
+            column_prices,
+            place,
+            out,
+            at,
+        );
+        place += 1;
     }
+    at
 }
 
-pub(crate) fn print_list(
-    file: &[u8],
-    pairs: Pairs,
+// The whole list, with the sums of the prices.
+pub(crate) fn put_list(
+    huts: &[u16; 64],
+    n: usize,
+    window: u32,
+    total: i64,
+    all_rows: i64,
+    all_events: i64,
     costs: &[i32; 4096],
     mask: &[u8; 4096],
     working: &[i64; 4096],
     columns: &[u16; 64],
     row_prices: &[i64; 64],
     column_prices: &[i64; 64],
-)
-    requires { ⌜ Listed (pairs .n) (now columns) ⌝ }
+    out: &mut [u8],
+) -> usize
+    requires { ⌜ Listed n (now columns) ⌝ }
+    ensures { λ r. ⌜ (r, now (out .exit)) ≡ put (now (out .entry)) 0 (list (now (huts .entry)) n window total «all_rows» «all_events»
+        (now (costs .entry)) (now (mask .entry)) (now (working .entry)) (now (columns .entry)) (now («row_prices» .entry)) (now («column_prices» .entry))) ⌝ }
 {
-    let n = pairs.n;
-    let total = pairs.total;
-    let all_rows = numbers::sum(n, row_prices);
-    let all_events = numbers::sum(n, column_prices);
-    print_size(n, pairs.window);
-    print_pairs(file, n, costs, columns, row_prices, column_prices);
-    print_sums(total, all_rows, all_events);
-    print_event_prices(n, column_prices, all_events);
-    print_reason(total, all_rows, all_events);
-    print_every_pair(n, costs, mask, working, row_prices, column_prices);
+    let after_size = put_size(out, 0, n, window);
+    let after_pairs = put_pairs(
+        huts,
+        n,
+        costs,
+        columns,
+        row_prices,
+        column_prices,
+        out,
+        after_size,
+    );
+    let after_sums = row::put_sums(out, after_pairs, total, all_rows, all_events);
+    let after_prices = put_event_prices(n, column_prices, all_events, out, after_sums);
+    let after_total = put_total(out, after_prices, total);
+    let after_reason = put_reason(out, after_total, total, all_rows, all_events);
+    put_every_pair(
+        n,
+        costs,
+        mask,
+        working,
+        row_prices,
+        column_prices,
+        out,
+        after_reason,
+    )
 }

@@ -1,20 +1,7 @@
 // Lines about a row or an event, put into a lent buffer.
 ghost use mathlib.Core.Path.{_≡_};
-ghost use Rattle.storm_case.specs.Case.{hut};
 ghost use Rattle.text.specs.Text.{put};
 ghost use Rattle.price_list.specs.Lines.{prices, pair-line, sums-line, price-line, price-sum-line, allowed-line, hut-line};
-ghost use Rattle.price_list.specs.Listed.{hut-number};
-use storm_case::Hut;
-
-// The hut of a row; 0 where there is none, which is not so in an accepted file.
-pub(crate) fn hut_of(file: &[u8], row: usize) -> u16
-    ensures { λ r. ⌜ r ≡ hut-number (hut (now (file .entry)) row) ⌝ }
-{
-    match storm_case::hut_of(file, row) {
-        Hut::At(hut) => hut,
-        Hut::Absent => 0,
-    }
-}
 
 // A difference and its prices, as `300 = 300 + 0`.
 fn put_prices(
@@ -36,6 +23,7 @@ fn put_prices(
 // A pair of the pairing.
 pub(crate) fn put_pair(
     out: &mut [u8],
+    used: usize,
     row: usize,
     hut: u16,
     event: usize,
@@ -43,35 +31,41 @@ pub(crate) fn put_pair(
     row_price: i64,
     event_price: i64,
 ) -> usize
-    ensures { λ r. ⌜ (r, now (out .exit)) ≡ put (now (out .entry)) 0 (pair-line row hut event difference «row_price» «event_price») ⌝ }
+    ensures { λ r. ⌜ (r, now (out .exit)) ≡ put (now (out .entry)) used (pair-line row hut event difference «row_price» «event_price») ⌝ }
 {
-    let after_row = text::put_decimal_right(out, 0, 5, row as u64);
+    let after_row = text::put_decimal_right(out, used, 5, row as u64);
     let after_hut = text::put_decimal_right(out, after_row, 7, hut as u64);
     let after_event = text::put_decimal_right(out, after_hut, 7, event as u64);
     let after_prices = put_prices(out, after_event, difference, row_price, event_price);
     text::put(out, after_prices, b"\n")
 }
 
-pub(crate) fn put_sums(out: &mut [u8], total: i64, row_prices: i64, event_prices: i64) -> usize
-    ensures { λ r. ⌜ (r, now (out .exit)) ≡ put (now (out .entry)) 0 (sums-line total «row_prices» «event_prices») ⌝ }
+pub(crate) fn put_sums(
+    out: &mut [u8],
+    used: usize,
+    total: i64,
+    row_prices: i64,
+    event_prices: i64,
+) -> usize
+    ensures { λ r. ⌜ (r, now (out .exit)) ≡ put (now (out .entry)) used (sums-line total «row_prices» «event_prices») ⌝ }
 {
-    let after_word = text::put(out, 0, b"  sum              ");
+    let after_word = text::put(out, used, b"  sum              ");
     let after_prices = put_prices(out, after_word, total, row_prices, event_prices);
     text::put(out, after_prices, b"\n")
 }
 
-pub(crate) fn put_price(out: &mut [u8], event: usize, price: i64) -> usize
-    ensures { λ r. ⌜ (r, now (out .exit)) ≡ put (now (out .entry)) 0 (price-line event price) ⌝ }
+pub(crate) fn put_price(out: &mut [u8], used: usize, event: usize, price: i64) -> usize
+    ensures { λ r. ⌜ (r, now (out .exit)) ≡ put (now (out .entry)) used (price-line event price) ⌝ }
 {
-    let after_event = text::put_decimal_right(out, 0, 5, event as u64);
+    let after_event = text::put_decimal_right(out, used, 5, event as u64);
     let after_price = text::put_right(out, after_event, 16, price);
     text::put(out, after_price, b"\n")
 }
 
-pub(crate) fn put_price_sum(out: &mut [u8], sum: i64) -> usize
-    ensures { λ r. ⌜ (r, now (out .exit)) ≡ put (now (out .entry)) 0 (price-sum-line sum) ⌝ }
+pub(crate) fn put_price_sum(out: &mut [u8], used: usize, sum: i64) -> usize
+    ensures { λ r. ⌜ (r, now (out .exit)) ≡ put (now (out .entry)) used (price-sum-line sum) ⌝ }
 {
-    let after_word = text::put(out, 0, b"  sum");
+    let after_word = text::put(out, used, b"  sum");
     let after_sum = text::put_right(out, after_word, 16, sum);
     text::put(out, after_sum, b"\n")
 }
@@ -79,6 +73,7 @@ pub(crate) fn put_price_sum(out: &mut [u8], sum: i64) -> usize
 // An allowed pair, with what is left of its difference.
 pub(crate) fn put_allowed(
     out: &mut [u8],
+    used: usize,
     row: usize,
     event: usize,
     difference: i64,
@@ -86,9 +81,9 @@ pub(crate) fn put_allowed(
     event_price: i64,
     spare: i64,
 ) -> usize
-    ensures { λ r. ⌜ (r, now (out .exit)) ≡ put (now (out .entry)) 0 (allowed-line row event difference «row_price» «event_price» spare) ⌝ }
+    ensures { λ r. ⌜ (r, now (out .exit)) ≡ put (now (out .entry)) used (allowed-line row event difference «row_price» «event_price» spare) ⌝ }
 {
-    let after_row = text::put_decimal_right(out, 0, 5, row as u64);
+    let after_row = text::put_decimal_right(out, used, 5, row as u64);
     let after_event = text::put_decimal_right(out, after_row, 7, event as u64);
     let after_prices = put_prices(out, after_event, difference, row_price, event_price);
     let after_plus = text::put(out, after_prices, b" + ");
@@ -96,10 +91,10 @@ pub(crate) fn put_allowed(
     text::put(out, after_spare, b"\n")
 }
 
-pub(crate) fn put_hut(out: &mut [u8], row: usize, hut: u16) -> usize
-    ensures { λ r. ⌜ (r, now (out .exit)) ≡ put (now (out .entry)) 0 (hut-line row hut) ⌝ }
+pub(crate) fn put_hut(out: &mut [u8], used: usize, row: usize, hut: u16) -> usize
+    ensures { λ r. ⌜ (r, now (out .exit)) ≡ put (now (out .entry)) used (hut-line row hut) ⌝ }
 {
-    let after_row = text::put_decimal_right(out, 0, 5, row as u64);
+    let after_row = text::put_decimal_right(out, used, 5, row as u64);
     let after_hut = text::put_decimal_right(out, after_row, 7, hut as u64);
     text::put(out, after_hut, b"\n")
 }

@@ -1,26 +1,24 @@
-// Words and numbers, printed one after another.
-use libc::STDOUT_FILENO;
+// Words and numbers, put one after another.
+ghost use mathlib.Core.Path.{_≡_};
+ghost use Rattle.text.specs.Text.{put};
+ghost use Rattle.price_list.specs.Lines.{plural, counted};
 
-pub(crate) fn print(words: &[u8]) {
-    io::write_all(STDOUT_FILENO, words);
-}
-
-pub(crate) fn print_number(n: u64) {
-    io::print_decimal(STDOUT_FILENO, n);
-}
-
-pub(crate) fn print_signed(z: i64) {
-    let mut digits = [0u8; 20];
-    let used = text::put_signed(&mut digits, 0, z);
-    print(&digits[..used]);
+// An `s` behind more things than one, or none.
+fn put_plural(out: &mut [u8], used: usize, count: usize) -> usize
+    ensures { λ r. ⌜ (r, now (out .exit)) ≡ put (now (out .entry)) used (plural count) ⌝ }
+{
+    if count == 1 {
+        return text::put(out, used, b"");
+    }
+    text::put(out, used, b"s")
 }
 
 // As `1 event` and `2 events`.
-pub(crate) fn print_counted(count: usize, thing: &[u8]) {
-    print_number(count as u64);
-    print(b" ");
-    print(thing);
-    if count != 1 {
-        print(b"s");
-    }
+pub(crate) fn put_counted(out: &mut [u8], used: usize, count: usize, thing: &[u8]) -> usize
+    ensures { λ r. ⌜ (r, now (out .exit)) ≡ put (now (out .entry)) used (counted count (now (thing .entry))) ⌝ }
+{
+    let after_count = text::put_decimal(out, used, count as u64);
+    let after_blank = text::put(out, after_count, b" ");
+    let after_thing = text::put(out, after_blank, thing);
+    put_plural(out, after_thing, count)
 }

@@ -6,7 +6,7 @@ use Prim.Native.Nat.{ℕ, zero, suc, _+_, _-_, _≤_, _<_, min}
 use native.Mathlib.Decide.{decLe}
 use native.Mathlib.Numerals.{add-one}
 use native.Mathlib.Omega.{arith}
-use lib.ListN.{length, getD, set, take, drop, length-append, length-take, length-drop, length-set}
+use lib.ListN.{length, getD, set, take, drop, length-append, length-take, length-drop, length-set, take-append-drop}
 use lib.Seq.{take-nil, take-all, take-at, take-append-add, length-take-le, drop-length, drop-append-add, drop-drop}
 use lib.Seq.{paste, paste-zero, paste-suc, length-paste-head}
 use Rattle.text.specs.Text.{front, put}
@@ -134,6 +134,17 @@ module _ {before : List ℕ} {used : ℕ} {text : List ℕ} {r : ℕ} {out : Lis
 
   pub holds-prefix : r ≡ length (take r out)
   holds-prefix = sym (length-take-le r out holds-fits)
+
+  -- nothing yet behind it
+  pub holds-begin : Holds out r [] r out
+  unfolding put front
+  holds-begin =
+      let long = length-take-le r out holds-fits in
+      record { held = rw (append-nil (take r out), take-all (length out) (take r out) (omega (arith, long, holds-fits)), long, take-append-drop r out) }
+
+  -- a text behind it
+  pub holds-then : {more : List ℕ} {r′ : ℕ} {out′ : List ℕ} → Holds out r more r′ out′ → Holds before used (text ++ more) r′ out′
+  holds-then h′ = holds-more _ (h′ .held)
 
 -- a text that fits is there, whole
 pub holds-whole : {before text : List ℕ} {r : ℕ} {out : List ℕ} → Holds before 0 text r out → length text ≤ length before → take r out ≡ text

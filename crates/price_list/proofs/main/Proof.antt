@@ -1,6 +1,7 @@
--- `main` meets its contract: what is read lies in its buffer.
+-- `main` meets its contract: what is read and what is written lie in their buffers.
 use borrow.Author.Needs.{needs}
 use Rattle.input.proofs.WithinLaws.{counted}
+use Rattle.text.proofs.PutLaws.{holds-fits, holds-prefix}
 use Rattle.price_list.proofs.main.Statement.{statement}
 use Rattle.price_list.proofs.main.Tie as tie
 
@@ -30,16 +31,37 @@ array-share-prefix-file c =
     let known = c .before in
     counted _ (known .count .given .1) (known .before .before .before .read .ensures) .0
 
-slice-aggregate-print-case : tie.Need-slice-aggregate-print-case
-slice-aggregate-print-case c =
+slice-aggregate-report : tie.Need-slice-aggregate-report
+slice-aggregate-report c =
     let known = c .before .before in
     counted _ (known .count .given .1) (known .before .before .before .read .ensures) .1
 
-print-case-requires : tie.Need-print-case-requires
-print-case-requires c κs = search needs
+slice-aggregate-report-2 : tie.Need-slice-aggregate-report-2
+slice-aggregate-report-2 c = search needs
+
+report-requires : tie.Need-report-requires
+report-requires c κs = search needs
+
+array-share-prefix-out : tie.Need-array-share-prefix-out
+array-share-prefix-out c = holds-fits (record { held = c .before .report .ensures .printed })
+
+slice-aggregate-write-all : tie.Need-slice-aggregate-write-all
+slice-aggregate-write-all c = holds-prefix (record { held = c .before .before .report .ensures .printed })
+
+write-all-requires : tie.Need-write-all-requires
+write-all-requires c κs = search needs
+
+slice-aggregate-fail-2 : tie.Need-slice-aggregate-fail-2
+slice-aggregate-fail-2 c = search needs
+
+fail-requires-2 : tie.Need-fail-requires-2
+fail-requires-2 c κs = search needs
 
 returns-2 : tie.Need-returns-2
 returns-2 c = search needs
+
+returns-3 : tie.Need-returns-3
+returns-3 c = search needs
 
 pub main-spec : {M : Type 1} → statement M
 main-spec =
@@ -53,6 +75,13 @@ main-spec =
     fail-requires
     returns
     array-share-prefix-file
-    slice-aggregate-print-case
-    print-case-requires
-    returns-2)
+    slice-aggregate-report
+    slice-aggregate-report-2
+    report-requires
+    array-share-prefix-out
+    slice-aggregate-write-all
+    write-all-requires
+    slice-aggregate-fail-2
+    fail-requires-2
+    returns-2
+    returns-3)

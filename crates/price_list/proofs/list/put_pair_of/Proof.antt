@@ -13,7 +13,7 @@ use Rattle.price_list.proofs.list.put_pair_of.Tie as tie
 
 -- from the event to the start, and from the prices to the event
 abbrev begun : tie.After-event → tie.Start
-begun event = event .before .before .before
+begun event = event .before .before
 
 abbrev event-of : tie.After-put-pair-arg2 → tie.After-event
 event-of prices = prices .before .before .before .before
@@ -42,8 +42,11 @@ element-copy-out-difference c = let pre = begun c .pre in omega (arith, pair-pla
 cast-difference : tie.Need-cast-difference
 cast-difference c = search (wide-fits, needs)
 
-hut-of-requires : tie.Need-hut-of-requires
-hut-of-requires c κs = search needs
+mul-hut : tie.Need-mul-hut
+mul-hut c = search needs
+
+element-copy-out-hut : tie.Need-element-copy-out-hut
+element-copy-out-hut c = search needs
 
 mul-put-pair : tie.Need-mul-put-pair
 mul-put-pair c = search needs
@@ -75,7 +78,7 @@ returns c =
     let cost = wide-back (getD (a .costs .now) (a .row * a .n + event) (pos 0)) (hut .before .difference .given) in
     let row-price = back w64 (getD (a .row-prices .now) (a .row) (pos 0)) (row-price-read .put-pair-arg2 .given) in
     let event-price = back w64 (getD (a .column-prices .now) event (pos 0)) (event-price-read .put-pair-arg3 .given) in
-    rw (hut .hut-of .ensures, cost, row-price, event-price) at (put .put-pair .ensures)
+    rw (cost, row-price, event-price) at (put .put-pair .ensures)
 
 pub put-pair-of-spec : {M : Type 1} → statement M
 put-pair-of-spec =
@@ -89,7 +92,8 @@ put-pair-of-spec =
     mul-difference
     element-copy-out-difference
     cast-difference
-    hut-of-requires
+    mul-hut
+    element-copy-out-hut
     mul-put-pair
     element-copy-out-put-pair
     mul-put-pair-2
