@@ -7,13 +7,6 @@ ghost use Rattle.lines.specs.First.{first};
 ghost use Rattle.lines.specs.Sets.{has, with, without, all as all-below, rest};
 ghost use Rattle.ground.specs.Square.{InWord};
 
-pub fn is_covered(lines: u64, line: usize) -> bool
-    requires { ⌜ line < 64 ⌝ }
-    ensures { λ r. ⌜ r ≡ has lines line ⌝ }
-{
-    (lines >> line) & 1 == 1
-}
-
 pub fn cover(lines: u64, line: usize) -> u64
     requires { ⌜ line < 64 ⌝ }
     ensures { λ r. ⌜ r ≡ with lines line ⌝ }

@@ -31,7 +31,7 @@ pub(crate) fn find_zero_in_row(
     let start = row * n;
     let mut column = 0;
     while column < n {
-        if !sets::is_covered(taken, column) {
+        if !lines::has(taken, column) {
             if weight_matrix::is_element_zero(mask, working, start + column) {
                 return column;
             }

@@ -174,7 +174,7 @@ pub(crate) fn follow_prices(
             mask,
             columns,
             row,
-            sets::is_covered(rows, row),
+            lines::has(rows, row),
             change,
             working,
         );

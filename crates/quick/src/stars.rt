@@ -37,7 +37,7 @@ fn free_zero(n: usize, costs: &[i32], mask: &[u8], row: usize, price: i64, taken
     let start = row * n;
     let mut column = 0;
     while column < n {
-        if !sets::is_covered(taken, column) {
+        if !lines::has(taken, column) {
             if costs_price(costs, mask, start + column, price) {
                 return column;
             }

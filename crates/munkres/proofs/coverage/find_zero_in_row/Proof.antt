@@ -26,8 +26,8 @@ mul-start c = omega (arith, place-lt (c .before .args .n) (c .before .args .row)
 loop-holds : tie.Need-loop-holds Inv-loop μ-loop
 loop-holds c = missed-none
 
-is-covered-requires : tie.Need-is-covered-requires Inv-loop μ-loop
-is-covered-requires c κs = search needs
+has-requires : tie.Need-has-requires Inv-loop μ-loop
+has-requires c κs = search needs
 
 -- the cell's place is in the square
 place : (c : tie.Then1 Inv-loop μ-loop)
@@ -45,7 +45,7 @@ unfolding zero-at allows
 returns c =
     let q = c .before .before .before in
     missed-hit _ (q .before .loop-test .taken)
-    (rw (sym (c .before .is-element-zero .ensures) ∙ c .if2 .taken, sym (q .is-covered .ensures) ∙ not-true _ (c .before .before .if1 .taken)))
+    (rw (sym (c .before .is-element-zero .ensures) ∙ c .if2 .taken, sym (q .has .ensures) ∙ not-true _ (c .before .before .if1 .taken)))
     (q .before .before .loop .inv)
 
 add-column : tie.Need-add-column Inv-loop μ-loop
@@ -60,7 +60,7 @@ loop-again c =
     missed-more
     (⊎-elim
     (λ w. rw (sym (w .1 .ensures) ∙ w .2 .left))
-    (λ w. rw (sym (c .before .is-covered .ensures) ∙ not-false _ (w .left), and-false))
+    (λ w. rw (sym (c .before .has .ensures) ∙ not-false _ (w .left), and-false))
     (c .if1 .came))
     (c .before .before .before .loop .inv)
 
@@ -75,7 +75,7 @@ find-zero-in-row-spec =
     μ-loop
     mul-start
     loop-holds
-    is-covered-requires
+    has-requires
     add-is-element-zero
     is-element-zero-requires
     returns

@@ -28,8 +28,8 @@ abbrev μ-loop : tie.MeasureT-loop
 loop-holds : tie.Need-loop-holds Inv-loop μ-loop
 loop-holds c = (search needs, rows-none _ _ _ _)
 
-is-covered-requires : tie.Need-is-covered-requires Inv-loop μ-loop
-is-covered-requires c κs = search needs
+has-requires : tie.Need-has-requires Inv-loop μ-loop
+has-requires c κs = search needs
 
 follow-row-requires : tie.Need-follow-row-requires Inv-loop μ-loop
 unfolding followed
@@ -44,7 +44,7 @@ follow-row-requires c κs =
       flags = s .pre .flags;
       below = search needs;
       fits = rw m (s .pre .fits);
-      values = λ j h t. rw (m, c .before .is-covered .ensures, rows-next _ _ _ _ _ _ j (l .inv .1))
+      values = λ j h t. rw (m, c .before .has .ensures, rows-next _ _ _ _ _ _ j (l .inv .1))
           (rw (T-true (allows (a .n) (a .mask .now) (l .row) j) t) at
           (square-fits (a .n) (λ i j w. cond (allows (a .n) (a .mask .now) i j) (follow (a .change) (has (a .rows) i) (has (a .columns) j) w) w) (a .working .now)
           (grid .working-square) (s .pre .values) (l .row) j (omega arith) h));
@@ -60,7 +60,7 @@ loop-again : tie.Need-loop-again Inv-loop μ-loop
 loop-again c =
     let s = c .before .before .before .before .before .before .before in
     let l = c .before .before .before .before .before .loop in
-    let k = c .before .before .before .is-covered .ensures in
+    let k = c .before .before .before .has .ensures in
     (search needs, rows-more _ _ _ _ _ _ _ _ (s .pre .grid .working-square) (omega arith) (λ j x. rw k) (c .before .follow-row .ensures) (l .inv .1))
 
 same-length : tie.Need-same-length Inv-loop μ-loop
@@ -79,7 +79,7 @@ follow-prices-spec =
     Inv-loop
     μ-loop
     loop-holds
-    is-covered-requires
+    has-requires
     follow-row-requires
     add-row
     loop-less

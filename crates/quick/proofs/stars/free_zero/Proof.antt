@@ -31,8 +31,8 @@ mul-start c = omega (arith, place-lt (c .before .args .n) (c .before .args .row)
 loop-holds : tie.Need-loop-holds Inv-loop μ-loop
 loop-holds c = missed-none
 
-is-covered-requires : tie.Need-is-covered-requires Inv-loop μ-loop
-is-covered-requires c κs = search needs
+has-requires : tie.Need-has-requires Inv-loop μ-loop
+has-requires c κs = search needs
 
 -- the cell's place is in the square
 place : (c : tie.Then1 Inv-loop μ-loop)
@@ -55,7 +55,7 @@ returns c =
     let s = q .before .before .before .before in
     let a = s .args in
     rw (toZ-ofZ (s .fits .price)) at (missed-hit {b = λ j. (allows (a .n) (a .mask .now) (a .row) j && is-zero (cost-at (a .n) (a .costs .now) (a .row) j -ℤ toZ w64 (ofZ w64 (a .price)))) && not (has (a .taken) j)} _ (q .before .loop-test .taken)
-    (rw (sym (c .before .costs-price .ensures) ∙ c .if2 .taken, sym (q .is-covered .ensures) ∙ not-true _ (c .before .before .if1 .taken)))
+    (rw (sym (c .before .costs-price .ensures) ∙ c .if2 .taken, sym (q .has .ensures) ∙ not-true _ (c .before .before .if1 .taken)))
     (q .before .before .loop .inv))
 
 add-column : tie.Need-add-column Inv-loop μ-loop
@@ -70,7 +70,7 @@ loop-again c =
     missed-more
     (⊎-elim
     (λ w. rw (sym (w .1 .ensures) ∙ w .2 .left))
-    (λ w. rw (sym (c .before .is-covered .ensures) ∙ not-false _ (w .left), and-false))
+    (λ w. rw (sym (c .before .has .ensures) ∙ not-false _ (w .left), and-false))
     (c .if1 .came))
     (c .before .before .before .loop .inv)
 
@@ -85,7 +85,7 @@ free-zero-spec =
     μ-loop
     mul-start
     loop-holds
-    is-covered-requires
+    has-requires
     add-costs-price
     costs-price-requires
     returns
