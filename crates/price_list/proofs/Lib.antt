@@ -5,3 +5,5 @@ pub mod PromiseLaws
 pub mod SolverLaws
 pub mod Theorems
 pub mod ReportLaws
+pub mod Printed
+pub mod Closed

@@ -10,7 +10,7 @@ mod words;
 use input::Input;
 use libc::STDOUT_FILENO;
 
-// An accepted file has at most 1,032 bytes, and what is printed of a file at most 309,964.
+// An accepted file has at most 1,032 bytes, and a list of 64 rows takes some 310,000.
 fn main() {
     let mut file = [0u8; 4096];
     let Input::Read(count) = input::read(&mut file) else {

@@ -1,0 +1,49 @@
+-- Theorems of what is printed: there is one text for a file, the first 4,096 bytes decide it, and the list has a line for each allowed pair and for no other.
+use mathlib.Core.Path.{_≡_, sym, ap, _∙_}
+use mathlib.Core.Logic.{_≢_}
+use mathlib.Core.List.{List, []}
+use Prim.Native.Nat.{ℕ, _+_, _*_, _<_}
+use native.Mathlib.Omega.{arith}
+use borrow.Author.Tests.{eq-eqb, ne-eqb}
+use lib.IntN.{ℤ}
+use lib.ListN.{take, replicate}
+use Rattle.lines.specs.Square.{cell}
+use Rattle.lines.proofs.Squares.{place-of}
+use Rattle.storm_case.specs.Case.{hut-of}
+use Rattle.storm_case.specs.Pair.{fresh}
+use Rattle.storm_case.proofs.Decides.{cut-said}
+use Rattle.storm_case.proofs.OnlyPairs.{OnlyAnswer, only-pairs, first-pairs}
+use Rattle.text.specs.Text.{put}
+use Rattle.price_list.specs.Lines.{allowed-of}
+use Rattle.price_list.specs.List.{cell-line}
+use Rattle.price_list.specs.Report.{huts, text-of, Reported}
+
+-- Two reports of a file are equal: the count, and every byte of the buffer. Of the solver only its promise is known here: see `Closed`.
+pub only-report : OnlyAnswer → {file out : List ℕ} {r r′ : ℕ} {after after′ : List ℕ}
+    → Reported file out r after → Reported file out r′ after′ → (r ≡ r′) × (after ≡ after′)
+only-report only-answer {file} {out} x y =
+    let same = only-pairs only-answer file fresh (x .promise) (y .promise) in
+    let text : text-of (huts file) (x .pairs) (x .filled) ≡ text-of (huts file) (y .pairs) (y .filled) =
+    ap (λ p. text-of (huts file) p (x .filled)) (same .0) ∙ ap (text-of (huts file) (y .pairs)) (same .1) in
+    let whole = x .printed ∙ ap (put out 0) text ∙ sym (y .printed) in
+    (ap (λ p. p .0) whole, ap (λ p. p .1) whole)
+
+-- what the program reads of its input is enough
+pub first-report : (file : List ℕ) {out : List ℕ} {r : ℕ} {after : List ℕ} → Reported (take 4096 file) out r after → Reported file out r after
+first-report file x = record {
+  pairs = x .pairs;
+  filled = x .filled;
+  promise = first-pairs file (x .promise);
+  printed = rw (cut-said 4096 (omega arith) file hut-of (replicate 64 0)) at (x .printed);
+}
+
+-- the list goes over every cell once: an allowed pair has its line there, and any other has none
+module _ (n : ℕ) (costs : List ℤ) (mask : List ℕ) (working row-prices column-prices : List ℤ) (row event : ℕ) (below : event < n) where
+  pub pair-shown : cell 0 n mask row event ≡ 1
+      → cell-line n costs mask working row-prices column-prices (row * n + event) ≡ allowed-of n costs working row-prices column-prices row event
+  unfolding cell-line
+  pair-shown one = let at = place-of n row event below in rw (eq-eqb _ _ one, at .0, at .1)
+
+  pub pair-hidden : cell 0 n mask row event ≢ 1 → cell-line n costs mask working row-prices column-prices (row * n + event) ≡ []
+  unfolding cell-line
+  pair-hidden other = rw (ne-eqb _ _ other)
