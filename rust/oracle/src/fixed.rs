@@ -1,18 +1,18 @@
 //! The fixed runs: the sample table, each refusal at its limits, and the matrices on which the crate's i32 run wraps.
 use crate::draw::{bytes, enough, lengths, Case, Random};
-use crate::face::{Answer, Solver, LIMIT};
-use crate::runs::{answered, both, same_as_watched, Seen, Verdict};
+use crate::face::{Answer, Solvers, LIMIT};
+use crate::runs::{alike, answered, same_as_watched, Seen, Verdict};
 use crate::watch::chosen;
 use munkres::{solve_assignment, WeightMatrix};
 use munkres_checked::wraps;
 
 /// All of them.
-pub fn all(solver: Solver) -> Vec<Verdict> {
-    let mut verdicts = samples(solver);
-    verdicts.extend(sizes_and_lengths(solver));
-    verdicts.extend(masks_and_costs(solver));
-    verdicts.extend(worst_cases(solver));
-    verdicts.extend(wrapped(solver));
+pub fn all(solvers: Solvers) -> Vec<Verdict> {
+    let mut verdicts = samples(solvers);
+    verdicts.extend(sizes_and_lengths(solvers));
+    verdicts.extend(masks_and_costs(solvers));
+    verdicts.extend(worst_cases(solvers));
+    verdicts.extend(wrapped(solvers));
     verdicts
 }
 
@@ -33,7 +33,7 @@ fn case(text: &str, budget: u32) -> Case {
 }
 
 /// The table of sample matrices: number, columns, total, counts, block.
-fn samples(solver: Solver) -> Vec<Verdict> {
+fn samples(solvers: Solvers) -> Vec<Verdict> {
     let enough = u32::MAX;
     #[rustfmt::skip]
     let table: &[(&str, u32, u32, &[u16], i64, [u32; 3], u64, u64)] = &[
@@ -54,43 +54,45 @@ fn samples(solver: Solver) -> Vec<Verdict> {
     let mut verdicts = vec![];
     for &(text, budget, number, columns, total, [adjustments, primes, augmentations], block_rows, block_columns) in table {
         let case = case(text, budget);
-        verdicts.push(answered(solver, &mut random, &case).and_then(|(answer, buffers)| {
+        verdicts.push(answered(solvers, &mut random, &case).and_then(|(answer, buffers)| {
             let wanted = Answer { number, place: 0, total, adjustments, primes, augmentations, block_rows, block_columns };
             agreed(answer == wanted && (number != 0 || buffers.columns.lent() == columns), number, || format!("sample {text}: {answer:?}"))
         }));
     }
     // What the table says besides: prices of the second sample, budgets of the fourth and the seventh, the first cost out of range.
-    verdicts.push(answered(solver, &mut random, &case(table[1].0, enough)).and_then(|(_, buffers)| {
+    verdicts.push(answered(solvers, &mut random, &case(table[1].0, enough)).and_then(|(_, buffers)| {
         let prices = [buffers.row_prices.lent(), buffers.column_prices.lent()].concat();
         agreed(prices == [250, 350, 200, 0, 150, 0], 0, || format!("sample prices {prices:?}"))
     }));
     for (text, budget) in [(table[3].0, 1), (table[6].0, 0)] {
-        verdicts.push(answered(solver, &mut random, &case(text, budget)).and_then(|(answer, _)| {
+        verdicts.push(answered(solvers, &mut random, &case(text, budget)).and_then(|(answer, _)| {
             let unfinished = answer.number == 7 && answer.adjustments == budget;
             agreed(unfinished, 7, || format!("sample {text}, budget {budget}: {answer:?}"))
         }));
     }
-    verdicts.push(refusal(solver, &mut random, 1, &[1_000_000_001], &[1], 5, 0));
+    verdicts.push(refusal(solvers, &mut random, 1, &[1_000_000_001], &[1], 5, 0));
     verdicts
 }
 
 /// A call with right lengths that must be refused with this number and place.
-fn refusal(solver: Solver, random: &mut Random, n: usize, costs: &[i32], mask: &[u8], number: u32, place: usize) -> Verdict {
-    let (answer, _) = both(solver, random, n, &bytes(costs), mask, 0, lengths(n))?;
+fn refusal(solvers: Solvers, random: &mut Random, n: usize, costs: &[i32], mask: &[u8], number: u32, place: usize) -> Verdict {
+    let (answer, _) = alike(solvers, random, n, &bytes(costs), mask, 0, lengths(n))?;
     let wanted = Answer { number, place, ..Answer::default() };
     agreed(answer == wanted, number, || format!("refusal {number} at {place} wanted: {answer:?}"))
 }
 
 /// Sizes out of range with every buffer right, empty or odd; then each buffer alone with each wrong length.
-fn sizes_and_lengths(solver: Solver) -> Vec<Verdict> {
+fn sizes_and_lengths(solvers: Solvers) -> Vec<Verdict> {
     let mut random = Random::of(1, 2);
     let mut verdicts = vec![];
     for (n, number) in [(0, 1), (65, 2), (66, 2), (1 << 32, 2), (1 << 63, 2), (usize::MAX, 2)] {
         for lent in [0, 1, 8, 64, 65, 66] {
             let cells = lent * lent;
-            verdicts.push(both(solver, &mut random, n, &vec![0; 4 * cells], &vec![9; cells], 0, lengths(lent)).and_then(|(answer, _)| {
-                agreed(answer == Answer { number, ..Answer::default() }, number, || format!("n {n} with buffers of {lent}: {answer:?}"))
-            }));
+            verdicts.push(alike(solvers, &mut random, n, &vec![0; 4 * cells], &vec![9; cells], 0, lengths(lent)).and_then(
+                |(answer, _)| {
+                    agreed(answer == Answer { number, ..Answer::default() }, number, || format!("n {n} with buffers of {lent}: {answer:?}"))
+                },
+            ));
         }
     }
     for n in [1, 2, 3, 8, 63, 64] {
@@ -104,7 +106,7 @@ fn sizes_and_lengths(solver: Solver) -> Vec<Verdict> {
                 let mut lent = right;
                 lent[buffer] = length;
                 let [costs, mask, written @ ..] = lent;
-                verdicts.push(both(solver, &mut random, n, &vec![200; costs], &vec![9; mask], 0, written).and_then(|(answer, _)| {
+                verdicts.push(alike(solvers, &mut random, n, &vec![200; costs], &vec![9; mask], 0, written).and_then(|(answer, _)| {
                     agreed(answer == Answer { number: 3, ..Answer::default() }, 3, || format!("n {n}, lengths {lent:?}: {answer:?}"))
                 }));
             }
@@ -114,7 +116,7 @@ fn sizes_and_lengths(solver: Solver) -> Vec<Verdict> {
 }
 
 /// Each cell alone with each bad mask byte, and with each cost at and past the limits, allowed and forbidden; then two at once.
-fn masks_and_costs(solver: Solver) -> Vec<Verdict> {
+fn masks_and_costs(solvers: Solvers) -> Vec<Verdict> {
     let mut random = Random::of(1, 3);
     let (limit, least, most) = (LIMIT as i32, i32::MIN, i32::MAX);
     let mut verdicts = vec![];
@@ -127,25 +129,27 @@ fn masks_and_costs(solver: Solver) -> Vec<Verdict> {
                 costs[0] = most;
                 mask[cells - 1] = 2;
                 mask[q] = byte;
-                verdicts.push(refusal(solver, &mut random, n, &costs, &mask, 4, q));
+                verdicts.push(refusal(solvers, &mut random, n, &costs, &mask, 4, q));
             }
             for cost in [limit + 1, -limit - 1, least, most] {
                 let (mut costs, mut mask) = (vec![0; cells], vec![1; cells]);
                 costs[cells - 1] = least;
                 costs[q] = cost;
-                verdicts.push(refusal(solver, &mut random, n, &costs, &mask, 5, q));
+                verdicts.push(refusal(solvers, &mut random, n, &costs, &mask, 5, q));
                 // Forbidden, it is not looked at.
                 costs[cells - 1] = 0;
                 costs[q] = cost;
                 mask[q] = 0;
                 let case = Case { n, costs, mask, budget: enough(n) };
-                verdicts.push(answered(solver, &mut random, &case).and_then(|(answer, buffers)| same_as_watched(&case, &answer, &buffers)));
+                verdicts
+                    .push(answered(solvers, &mut random, &case).and_then(|(answer, buffers)| same_as_watched(&case, &answer, &buffers)));
             }
             for cost in [limit, -limit] {
                 let mut costs = vec![0; cells];
                 costs[q] = cost;
                 let case = Case { n, costs, mask: vec![1; cells], budget: enough(n) };
-                verdicts.push(answered(solver, &mut random, &case).and_then(|(answer, buffers)| same_as_watched(&case, &answer, &buffers)));
+                verdicts
+                    .push(answered(solvers, &mut random, &case).and_then(|(answer, buffers)| same_as_watched(&case, &answer, &buffers)));
             }
         }
     }
@@ -153,13 +157,13 @@ fn masks_and_costs(solver: Solver) -> Vec<Verdict> {
 }
 
 /// At every size the matrix that reaches all three ceilings, and the chain that reaches the greatest prices.
-fn worst_cases(solver: Solver) -> Vec<Verdict> {
+fn worst_cases(solvers: Solvers) -> Vec<Verdict> {
     let mut random = Random::of(1, 4);
     let mut verdicts = vec![];
     for n in 1..=64 {
         let costs = (0..n * n).map(|q| ((q / n + 1) * (q % n + 1)) as i32).collect();
         let case = Case { n, costs, mask: vec![1; n * n], budget: enough(n) };
-        verdicts.push(answered(solver, &mut random, &case).and_then(|(answer, buffers)| {
+        verdicts.push(answered(solvers, &mut random, &case).and_then(|(answer, buffers)| {
             let counts = [answer.adjustments, answer.primes + 1, answer.augmentations + 1];
             let ceilings = [n * (n - 1) / 2, n * (n + 1) / 2, n].map(|count| count as u32);
             agreed(counts == ceilings, 0, || format!("n {n}, (i+1)(j+1): {answer:?}"))?;
@@ -172,7 +176,7 @@ fn worst_cases(solver: Solver) -> Vec<Verdict> {
         let costs = (0..n * n).map(|q| if q % n == q / n + 1 { LIMIT as i32 } else { -LIMIT as i32 }).collect();
         let mask = (0..n * n).map(|q| allowed(q / n, q % n) as u8).collect();
         let case = Case { n, costs, mask, budget: enough(n) };
-        verdicts.push(answered(solver, &mut random, &case).and_then(|(answer, buffers)| {
+        verdicts.push(answered(solvers, &mut random, &case).and_then(|(answer, buffers)| {
             let greatest = *buffers.column_prices.lent().iter().max().unwrap();
             agreed(greatest == 2 * LIMIT * last as i64, 0, || format!("n {n}, chain: greatest price {greatest}"))?;
             same_as_watched(&case, &answer, &buffers)
@@ -182,7 +186,7 @@ fn worst_cases(solver: Solver) -> Vec<Verdict> {
 }
 
 /// The matrices on which the crate's i32 run wraps: at n = 3 its pairing is still least, at n = 5 it is not.
-fn wrapped(solver: Solver) -> Vec<Verdict> {
+fn wrapped(solvers: Solvers) -> Vec<Verdict> {
     let mut random = Random::of(1, 5);
     let g = LIMIT.to_string();
     let mut verdicts = vec![];
@@ -193,7 +197,7 @@ fn wrapped(solver: Solver) -> Vec<Verdict> {
     ];
     for &(text, crates, ours, total) in table {
         let case = case(&text.replace('G', &g), u32::MAX);
-        verdicts.push(answered(solver, &mut random, &case).and_then(|(answer, buffers)| {
+        verdicts.push(answered(solvers, &mut random, &case).and_then(|(answer, buffers)| {
             agreed(wraps(case.n, &case.costs), 0, || format!("{text}: the checked build does not panic"))?;
             let pairs = solve_assignment(&mut WeightMatrix::from_row_vec(case.n, case.costs.clone())).unwrap();
             agreed(chosen(&pairs) == crates, 0, || format!("{text}: the crate's columns are {:?}", chosen(&pairs)))?;

@@ -5,4 +5,5 @@ pub mod face;
 pub mod fixed;
 pub mod reference;
 pub mod runs;
+pub mod scipy;
 pub mod watch;

@@ -1,9 +1,12 @@
 //! The rules of the solver as a plain program: the refusals in their order, then the six steps. Neither the crate nor the port stands
 //! behind it.
-use crate::face::{Answer, Lent, LIMIT, MOST};
+use crate::face::{Answer, Lent, Solvers, LIMIT, MOST};
 
 const STAR: u8 = 1;
 const PRIME: u8 = 2;
+
+/// The reference where solvers are asked for.
+pub const ALONE: Solvers = &[("reference", solve)];
 
 pub fn solve(n: usize, costs: &[u8], mask: &[u8], budget: u32, lent: Lent) -> Answer {
     let refused = |number, place| Answer { number, place, ..Answer::default() };

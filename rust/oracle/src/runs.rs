@@ -1,7 +1,7 @@
-//! The random runs: one function for each way of comparing the solver, the reference and the crate.
+//! The random runs: one function for each way of comparing the solvers, the reference and the crate.
 use crate::check::check;
 use crate::draw::{self, enough, lengths, Buffers, Case, Lengths, Random};
-use crate::face::{Answer, Solver, LIMIT, MOST};
+use crate::face::{Answer, Solver, Solvers, LIMIT, MOST};
 use crate::reference;
 use crate::watch::{chosen, watch};
 use munkres::{solve_assignment, Error, WeightMatrix, Weights};
@@ -10,7 +10,7 @@ use munkres_checked::wraps;
 /// What came of one run.
 #[derive(Clone, Copy)]
 pub enum Seen {
-    /// The solver's answer has this number, and all agree.
+    /// The answer has this number, and all agree.
     Agreed(u32),
     /// The crate's own arithmetic wraps, so its pairing was not asked for; all others agree.
     Wrapped(u32),
@@ -19,9 +19,9 @@ pub enum Seen {
 /// A run, or what was wrong with it.
 pub type Verdict = Result<Seen, String>;
 
-/// Calls solver and reference on the same random prior contents; the answer and every byte must be equal, guard zones included.
-pub fn both(
-    solver: Solver,
+/// Calls the solvers and the reference on the same random prior contents; the answer and every byte must be equal, guard zones included.
+pub fn alike(
+    solvers: Solvers,
     random: &mut Random,
     n: usize,
     costs: &[u8],
@@ -29,26 +29,28 @@ pub fn both(
     budget: u32,
     lengths: Lengths,
 ) -> Result<(Answer, Buffers), String> {
-    let mut buffers = Buffers::new(random, costs, mask, lengths);
-    let mut expected = buffers.clone();
-    let call = |solver: Solver, buffers: &mut Buffers| {
+    let before = Buffers::new(random, costs, mask, lengths);
+    let call = |solver: Solver| {
+        let mut buffers = before.clone();
         let (costs, mask, lent) = buffers.lend();
-        solver(n, costs, mask, budget, lent)
+        (solver(n, costs, mask, budget, lent), buffers)
     };
-    let answer = call(solver, &mut buffers);
-    let wanted = call(reference::solve, &mut expected);
-    if answer != wanted {
-        return Err(format!("n {n} budget {budget}: the answer is {answer:?}, the reference's {wanted:?}"));
+    let (wanted, expected) = call(reference::solve);
+    for (name, solver) in solvers {
+        let (answer, buffers) = call(*solver);
+        if answer != wanted {
+            return Err(format!("{name}, n {n} budget {budget}: the answer is {answer:?}, the reference's {wanted:?}"));
+        }
+        if let Some(buffer) = buffers.differs(&expected) {
+            return Err(format!("{name}, n {n} budget {budget}: {buffer} not as the reference's at answer {}", answer.number));
+        }
     }
-    match buffers.differs(&expected) {
-        Some(name) => Err(format!("n {n} budget {budget}: {name} not as the reference's at answer {}", answer.number)),
-        None => Ok((answer, buffers)),
-    }
+    Ok((wanted, expected))
 }
 
 /// The same on a case without faults, checked by the definition too.
-pub fn answered(solver: Solver, random: &mut Random, case: &Case) -> Result<(Answer, Buffers), String> {
-    let (answer, buffers) = both(solver, random, case.n, &case.bytes(), &case.mask, case.budget, lengths(case.n))?;
+pub fn answered(solvers: Solvers, random: &mut Random, case: &Case) -> Result<(Answer, Buffers), String> {
+    let (answer, buffers) = alike(solvers, random, case.n, &case.bytes(), &case.mask, case.budget, lengths(case.n))?;
     check(case, &answer, &buffers).map_err(|what| format!("{what}\n{case:?}\n{answer:?}"))?;
     Ok((answer, buffers))
 }
@@ -73,11 +75,11 @@ fn unwrapped(n: usize) -> i64 {
 }
 
 /// Full matrices with the crate's i32 weights; one in ten may wrap.
-pub fn full_i32(solver: Solver, random: &mut Random) -> Verdict {
+pub fn full_i32(solvers: Solvers, random: &mut Random) -> Verdict {
     let n = random.size();
     let most = if random.once_in(10) { LIMIT } else { unwrapped(n) };
     let case = Case { n, costs: draw::costs(random, n, most), mask: vec![1; n * n], budget: enough(n) };
-    let (answer, buffers) = answered(solver, random, &case)?;
+    let (answer, buffers) = answered(solvers, random, &case)?;
     if wraps(n, &case.costs) {
         return if most == unwrapped(n) { Err(format!("a run that cannot wrap does\n{case:?}")) } else { Ok(Seen::Wrapped(answer.number)) };
     }
@@ -85,13 +87,13 @@ pub fn full_i32(solver: Solver, random: &mut Random) -> Verdict {
 }
 
 /// Masked matrices with the crate's f32 weights, costs 0 to 1000; infinity, or now and then another number that is not finite, forbids.
-pub fn masked_f32(solver: Solver, random: &mut Random) -> Verdict {
+pub fn masked_f32(solvers: Solvers, random: &mut Random) -> Verdict {
     let n = random.size();
     let most = random.pick(&[3, 1000]);
     let costs = (0..n * n).map(|_| random.within(0..=most) as i32).collect();
     let mask = draw::mask(random, n);
     let case = Case { n, costs, mask, budget: enough(n) };
-    let (answer, buffers) = answered(solver, random, &case)?;
+    let (answer, buffers) = answered(solvers, random, &case)?;
     let forbidden = if random.once_in(8) { &[f32::INFINITY, f32::NEG_INFINITY, f32::NAN][..] } else { &[f32::INFINITY] };
     let weight = |q: usize| if case.mask[q] == 1 { case.costs[q] as f32 } else { random.pick(forbidden) };
     same_pairing(WeightMatrix::from_row_vec(n, (0..n * n).map(weight).collect()), &case, &answer, &buffers)
@@ -120,30 +122,30 @@ pub fn same_as_watched(case: &Case, answer: &Answer, buffers: &Buffers) -> Verdi
 }
 
 /// Masked matrices with 64-bit weights, the crate being watched; one in four has a budget that may be too small.
-pub fn masked_i64(solver: Solver, random: &mut Random) -> Verdict {
+pub fn masked_i64(solvers: Solvers, random: &mut Random) -> Verdict {
     let n = random.size();
     let mut case = draw::case(random, n);
     if random.once_in(4) {
         case.budget = random.within(0..=enough(n) as i64) as u32;
     }
-    let (answer, buffers) = answered(solver, random, &case)?;
+    let (answer, buffers) = answered(solvers, random, &case)?;
     same_as_watched(&case, &answer, &buffers)
 }
 
 /// One small matrix and every budget from 0 to the ceiling, one more and the greatest of all.
-pub fn every_budget(solver: Solver, random: &mut Random) -> Vec<Verdict> {
+pub fn every_budget(solvers: Solvers, random: &mut Random) -> Vec<Verdict> {
     let n = random.within(1..=9) as usize;
     let mut case = draw::case(random, n);
     let mut run = |budget| {
         case.budget = budget;
-        let (answer, buffers) = answered(solver, random, &case)?;
+        let (answer, buffers) = answered(solvers, random, &case)?;
         same_as_watched(&case, &answer, &buffers)
     };
     (0..=enough(n) + 1).chain([u32::MAX]).map(&mut run).collect()
 }
 
 /// A call with several things wrong at once, or none.
-pub fn faults(solver: Solver, random: &mut Random) -> Verdict {
+pub fn faults(solvers: Solvers, random: &mut Random) -> Verdict {
     let n = if random.once_in(20) { random.within(60..=64) } else { random.within(1..=9) } as usize;
     let mut case = draw::case(random, n);
     let mut asked = n;
@@ -169,7 +171,7 @@ pub fn faults(solver: Solver, random: &mut Random) -> Verdict {
             at => lengths[at - 2] = wrong(random, lengths[at - 2]),
         }
     }
-    let (answer, buffers) = both(solver, random, asked, &costs, &mask, case.budget, lengths)?;
+    let (answer, buffers) = alike(solvers, random, asked, &costs, &mask, case.budget, lengths)?;
     if asked == n && right && matches!(answer.number, 0 | 6 | 7) {
         check(&case, &answer, &buffers).map_err(|what| format!("{what}\n{case:?}\n{answer:?}"))?;
         return same_as_watched(&case, &answer, &buffers);

@@ -1,7 +1,7 @@
-//! Holds the solver against the published crate, the reference and the definition: compare [--reference] [SEED [COUNT]]
+//! Holds the solvers against the published crate, the reference and the definition: compare [--reference] [SEED [COUNT]]
 //!
-//! With --reference the reference stands in the solver's place. The last line is 'N passed, M failed'; any failure gives exit status 1.
-use oracle::face::{Solver, LINKED};
+//! With --reference the reference stands in the solvers' place. The last line is 'N passed, M failed'; any failure gives exit status 1.
+use oracle::face::{names, Solvers, LINKED};
 use oracle::runs::{self, Seen, Verdict};
 use oracle::{draw::Random, fixed, reference};
 use std::time::Instant;
@@ -57,16 +57,16 @@ impl Report {
 }
 
 /// Every `threads`-th run from `first` on.
-fn share(solver: Solver, seed: u64, count: u64, first: u64, threads: u64) -> Report {
+fn share(solvers: Solvers, seed: u64, count: u64, first: u64, threads: u64) -> Report {
     let mut report = Report::default();
     for run in (first..count).step_by(threads as usize) {
         let random = &mut Random::of(seed, run);
         match random.below(20) {
-            0..=6 => report.enter(1, run, runs::full_i32(solver, random)),
-            7..=10 => report.enter(2, run, runs::masked_f32(solver, random)),
-            11..=15 => report.enter(3, run, runs::masked_i64(solver, random)),
-            16 => runs::every_budget(solver, random).into_iter().for_each(|verdict| report.enter(4, run, verdict)),
-            _ => report.enter(5, run, runs::faults(solver, random)),
+            0..=6 => report.enter(1, run, runs::full_i32(solvers, random)),
+            7..=10 => report.enter(2, run, runs::masked_f32(solvers, random)),
+            11..=15 => report.enter(3, run, runs::masked_i64(solvers, random)),
+            16 => runs::every_budget(solvers, random).into_iter().for_each(|verdict| report.enter(4, run, verdict)),
+            _ => report.enter(5, run, runs::faults(solvers, random)),
         }
     }
     report
@@ -81,14 +81,11 @@ fn main() {
     let number =
         |at: usize, default: u64| words.get(at).map_or(default, |word| word.parse().expect("compare [--reference] [SEED [COUNT]]"));
     let (seed, count) = (number(0, 1), number(1, 400_000));
-    let solver = match (by_reference, LINKED) {
-        (true, _) => reference::solve,
-        (false, Some(solver)) => solver,
-        (false, None) => {
-            println!("compare: libserbihun.a was not there to be linked, nothing is compared\n0 passed, 1 failed");
-            std::process::exit(1);
-        }
-    };
+    let solvers = if by_reference { reference::ALONE } else { LINKED };
+    if solvers.is_empty() {
+        println!("compare: libserbihun.a was not there to be linked, nothing is compared\n0 passed, 1 failed");
+        std::process::exit(1);
+    }
 
     // The crate's overflow panics are asked for and say nothing; any other one is printed.
     let print = std::panic::take_hook();
@@ -98,13 +95,13 @@ fn main() {
         }
     }));
 
-    println!("the {} against the crate munkres 0.5.2; seed {seed}, {count} draws", if by_reference { "reference" } else { "solver" });
+    println!("{} against the crate munkres 0.5.2; seed {seed}, {count} draws", names(solvers));
     let start = Instant::now();
     let mut report = Report::default();
-    fixed::all(solver).into_iter().zip(0..).for_each(|(verdict, run)| report.enter(0, run, verdict));
+    fixed::all(solvers).into_iter().zip(0..).for_each(|(verdict, run)| report.enter(0, run, verdict));
     let threads = std::thread::available_parallelism().map_or(1, |threads| threads.get() as u64);
     std::thread::scope(|scope| {
-        let shares: Vec<_> = (0..threads).map(|first| scope.spawn(move || share(solver, seed, count, first, threads))).collect();
+        let shares: Vec<_> = (0..threads).map(|first| scope.spawn(move || share(solvers, seed, count, first, threads))).collect();
         shares.into_iter().for_each(|share| report.add(share.join().unwrap()));
     });
 

@@ -1,9 +1,9 @@
 //! Writes the crate's answers to a few thousand matrices into a file, or replays such a file: stored write FILE [SEED] | stored check FILE
 //!
-//! All that is stored was seen of the crate at work (watch.rs); neither the solver nor the reference has a part in it. The format is
-//! written down in README.md. `check` replays the file on the solver, and on the reference where no solver is linked.
+//! All that is stored was seen of the crate at work (watch.rs); neither a solver nor the reference has a part in it. The format is
+//! written down in README.md. `check` replays the file on both solvers, and on the reference where none is linked.
 use oracle::draw::{self, bytes, enough, lengths, Buffers, Case, Random};
-use oracle::face::{Answer, LIMIT, LINKED, MOST};
+use oracle::face::{names, Answer, Solver, LIMIT, LINKED, MOST};
 use oracle::reference;
 use oracle::watch::watch;
 
@@ -117,7 +117,7 @@ fn take_number(rest: &mut &[u8], width: usize) -> i64 {
 }
 
 /// Replays one record: whether answer and buffers are as stored.
-fn replay(mut rest: &[u8]) -> bool {
+fn replay(solver: Solver, mut rest: &[u8]) -> bool {
     let rest = &mut rest;
     let [n, number, cost_width, value_width] = [0; 4].map(|_: u8| take(rest, 1)[0] as usize);
     let [budget, adjustments, primes, augmentations] = [0; 4].map(|_: u8| take_number(rest, 4) as u32);
@@ -130,7 +130,7 @@ fn replay(mut rest: &[u8]) -> bool {
     let mut buffers = Buffers::new(&mut Random::of(n as u64, 0), &bytes(&costs), &mask, lengths(n));
     let before = buffers.clone();
     let (costs, mask, lent) = buffers.lend();
-    let answer = LINKED.unwrap_or(reference::solve)(n, costs, mask, budget, lent);
+    let answer = solver(n, costs, mask, budget, lent);
     let (block_rows, block_columns) = (block_rows as u64, block_columns as u64);
     let wanted = Answer { number: number as u32, place: 0, total, adjustments, primes, augmentations, block_rows, block_columns };
     let columns_hold = buffers.columns.lent() == if number == 0 { &columns } else { before.columns.lent() };
@@ -145,6 +145,7 @@ fn replay(mut rest: &[u8]) -> bool {
 
 fn check(file: &str) {
     let all = std::fs::read(file).expect(file);
+    let solvers = if LINKED.is_empty() { reference::ALONE } else { LINKED };
     let mut rest = &all[HEADER..];
     let (mut passed, mut failed) = (0, 0);
     loop {
@@ -152,14 +153,17 @@ fn check(file: &str) {
         if length == 0 {
             break;
         }
-        if replay(take(&mut rest, length)) {
-            passed += 1;
-        } else {
-            failed += 1;
+        let record = take(&mut rest, length);
+        for (_, solver) in solvers {
+            if replay(*solver, record) {
+                passed += 1;
+            } else {
+                failed += 1;
+            }
         }
     }
     assert!(rest.is_empty());
-    println!("replayed on the {}", if LINKED.is_some() { "solver" } else { "reference" });
+    println!("replayed on {}", names(solvers));
     println!("{passed} passed, {failed} failed");
     std::process::exit((failed > 0) as i32);
 }
