@@ -1,4 +1,4 @@
-// A record of the file `answers`: its matrix is solved again, and answer and buffers are held against what the record says.
+// A record of the file `answers`: its matrix is solved again by both solvers, and answer and buffers are held against what the record says.
 ghost use Prim.Native.Nat.{_≤_};
 use crate::Outcome;
 use crate::number;
@@ -115,6 +115,7 @@ fn compare(
 
 // Solves the matrix that was read, and compares.
 fn solve(
+    by_steps: bool,
     n: usize,
     record: &[u8],
     start: usize,
@@ -126,7 +127,8 @@ fn solve(
     row_prices: &mut [i64],
     column_prices: &mut [i64],
 ) -> Outcome {
-    let answer = munkres::solve_assignment(
+    let answer = solvers::solve_by(
+        by_steps,
         n,
         costs,
         mask,
@@ -149,8 +151,9 @@ fn solve(
     )
 }
 
-// `replay` in buffers of the lengths that n rows need.
+// `replay_by` in buffers of the lengths that n rows need.
 fn replay_in(
+    by_steps: bool,
     n: usize,
     record: &[u8],
     costs: &mut [i32],
@@ -165,6 +168,7 @@ fn replay_in(
     let costs_at = read_mask(n, record, mask);
     let start = read_costs(record, costs_at, width, costs);
     solve(
+        by_steps,
         n,
         record,
         start,
@@ -187,7 +191,7 @@ fn cells_of(n: usize) -> usize
 }
 
 // Solves the record's matrix again, in buffers that hold junk before, and compares.
-pub(crate) fn replay(record: &[u8]) -> Outcome {
+fn replay_by(by_steps: bool, record: &[u8]) -> Outcome {
     let n = number::byte(record, 0) as usize;
     if 64 < n {
         return Outcome::Different;
@@ -201,6 +205,7 @@ pub(crate) fn replay(record: &[u8]) -> Outcome {
     let mut row_prices = [JUNK_VALUE; 64];
     let mut column_prices = [JUNK_VALUE; 64];
     replay_in(
+        by_steps,
         n,
         record,
         &mut costs[..cells],
@@ -211,4 +216,12 @@ pub(crate) fn replay(record: &[u8]) -> Outcome {
         &mut row_prices[..n],
         &mut column_prices[..n],
     )
+}
+
+// The same by the port and by the quick solver: as stored where both are.
+pub(crate) fn replay(record: &[u8]) -> Outcome {
+    match replay_by(true, record) {
+        Outcome::Same(_) => replay_by(false, record),
+        Outcome::Different => Outcome::Different,
+    }
 }

@@ -1,6 +1,7 @@
-// One call of the solver, on what the text says is lent, held to what the text says must come out.
+// One call, by both solvers, on what the text says is lent, held to what the text says must come out.
 ghost use Prim.Native.Nat.{_≤_};
 use crate::list::List;
+use crate::list::both;
 use crate::list::field;
 use crate::list::fresh;
 use crate::list::held_bytes;
@@ -13,7 +14,7 @@ use crate::list::read_mask;
 use crate::numbers::LARGEST;
 use crate::numbers::count_to;
 use crate::words::after_word;
-use munkres::solve_assignment;
+use solvers::solve_by;
 use steps::Answer;
 
 // The longest buffer that is lent, of 65 rows.
@@ -88,6 +89,7 @@ fn is_as_said(
 
 // The call itself, on costs and mask that were read from `from` on.
 fn solve(
+    by_steps: bool,
     text: &[u8],
     from: usize,
     n: usize,
@@ -100,7 +102,8 @@ fn solve(
     row_prices: &mut [i64],
     column_prices: &mut [i64],
 ) -> List {
-    let answer = solve_assignment(
+    let answer = solve_by(
+        by_steps,
         n,
         costs,
         mask,
@@ -132,6 +135,7 @@ fn read_cells(text: &[u8], from: usize, costs: &mut [i32], mask: &mut [u8]) {
 
 // Reads size, budget, costs and mask, and calls.
 fn lent(
+    by_steps: bool,
     text: &[u8],
     from: usize,
     costs: &mut [i32],
@@ -146,6 +150,7 @@ fn lent(
     let budget = count_to(text, after_word(text, n.at, b"budget"), LARGEST_BUDGET);
     read_cells(text, budget.at, costs, mask);
     solve(
+        by_steps,
         text,
         budget.at,
         n.size,
@@ -161,7 +166,7 @@ fn lent(
 }
 
 // A call in buffers of the lengths that the text says. What is written there holds 77, 9, 99, -7 and -7 before.
-pub(crate) fn call(text: &[u8], from: usize) -> List {
+fn call_by(by_steps: bool, text: &[u8], from: usize) -> List {
     let costs_length = count_to(text, after_word(text, from, b"lent"), LONGEST);
     let mask_length = count_to(text, costs_length.at, LONGEST);
     let working_length = count_to(text, mask_length.at, LONGEST);
@@ -184,6 +189,7 @@ pub(crate) fn call(text: &[u8], from: usize) -> List {
     let mut row_prices = [-7i64; 4225];
     let mut column_prices = [-7i64; 4225];
     lent(
+        by_steps,
         text,
         column_length.at,
         &mut costs[..costs_room],
@@ -194,4 +200,9 @@ pub(crate) fn call(text: &[u8], from: usize) -> List {
         &mut row_prices[..row_room],
         &mut column_prices[..column_room],
     )
+}
+
+// The same call by the port and by the quick solver.
+pub(crate) fn call(text: &[u8], from: usize) -> List {
+    both(call_by(true, text, from), call_by(false, text, from))
 }

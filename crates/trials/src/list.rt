@@ -27,6 +27,14 @@ pub(crate) fn fresh(at: usize) -> List {
     }
 }
 
+// A later list: as the text says only where the earlier one was too.
+pub(crate) fn both(earlier: List, mut later: List) -> List {
+    if !earlier.same {
+        later.same = false;
+    }
+    later
+}
+
 // The list at its next number.
 fn next(text: &[u8], mut list: List) -> List {
     if list.all {

@@ -1,4 +1,4 @@
-// The compiled solver, tried. The file `trials` says on what, and what must come out; its head has the format. A line for each group; a trial
+// The compiled solvers, tried. The file `trials` says on what, and what must come out; its head has the format. A line for each group; a trial
 // that failed prints its name, and so does one that is not written as it must be, which ends the run.
 mod call;
 mod list;
@@ -32,22 +32,13 @@ fn print_line(what: &[u8], text: &[u8], from: usize) {
     io::write_all(STDOUT_FILENO, b"\n");
 }
 
-// A further call of a trial; both must be as the text says.
-fn further(text: &[u8], before: List, from: usize) -> List {
-    let mut list = call(text, from);
-    if !before.same {
-        list.same = false;
-    }
-    list
-}
-
 // All calls of a trial.
 fn calls(text: &[u8], from: usize) -> List {
     let mut list = call(text, from);
     let mut next = after_word(text, list.at, b"and");
     let mut turns = BEHIND;
     while turns > 0 && next != BEHIND {
-        list = further(text, list, next);
+        list = list::both(list, call(text, next));
         next = after_word(text, list.at, b"and");
         turns -= 1;
     }

@@ -21,8 +21,11 @@ after-word-requires c κs = search needs
 loop-holds : tie.Need-loop-holds Inv-loop μ-loop
 loop-holds c = search needs
 
-further-requires : tie.Need-further-requires Inv-loop μ-loop
-further-requires c κs = search needs
+call-requires-2 : tie.Need-call-requires-2 Inv-loop μ-loop
+call-requires-2 c κs = search needs
+
+both-requires : tie.Need-both-requires Inv-loop μ-loop
+both-requires c κs = search needs
 
 slice-aggregate-after-word-2 : tie.Need-slice-aggregate-after-word-2 Inv-loop μ-loop
 slice-aggregate-after-word-2 c = search needs
@@ -55,7 +58,8 @@ calls-spec =
     slice-aggregate-after-word
     after-word-requires
     loop-holds
-    further-requires
+    call-requires-2
+    both-requires
     slice-aggregate-after-word-2
     after-word-requires-2
     sub-turns

@@ -2,8 +2,8 @@
 use mathlib.Core.Path.{sym}
 use lib.Seq.{length-take-le}
 use borrow.Author.Needs.{needs}
-use Rattle.trials.proofs.call.call.Statement.{statement}
-use Rattle.trials.proofs.call.call.Tie as tie
+use Rattle.trials.proofs.call.call_by.Statement.{statement}
+use Rattle.trials.proofs.call.call_by.Tie as tie
 
 slice-aggregate-after-word : tie.Need-slice-aggregate-after-word
 slice-aggregate-after-word c = search needs
@@ -101,8 +101,8 @@ lent-requires c κs = search needs
 returns : tie.Need-returns
 returns c = search needs
 
-pub call-spec : {M : Type 1} → statement M
-call-spec =
+pub call-by-spec : {M : Type 1} → statement M
+call-by-spec =
     tie.close
     (tie.spec
     slice-aggregate-after-word

@@ -2,8 +2,8 @@
 use mathlib.Core.Path.{sym}
 use lib.Seq.{length-take-le}
 use borrow.Author.Needs.{needs}
-use Rattle.replay.proofs.answer.replay.Statement.{statement}
-use Rattle.replay.proofs.answer.replay.Tie as tie
+use Rattle.replay.proofs.answer.replay_by.Statement.{statement}
+use Rattle.replay.proofs.answer.replay_by.Tie as tie
 
 byte-requires : tie.Need-byte-requires
 byte-requires c κs = search needs
@@ -65,8 +65,8 @@ replay-in-requires c κs = search needs
 returns-2 : tie.Need-returns-2
 returns-2 c = search needs
 
-pub replay-spec : {M : Type 1} → statement M
-replay-spec =
+pub replay-by-spec : {M : Type 1} → statement M
+replay-by-spec =
     tie.close
     (tie.spec
     byte-requires
