@@ -5,7 +5,7 @@ use native.Mathlib.Omega.{arith}
 use lib.ListN.{getD}
 use Rattle.lines.proofs.Squares.{place-in}
 use Rattle.lines.proofs.Bounds.{row-fits}
-use Rattle.storm_case.proofs.Fronts.{cells-fit}
+use Rattle.storm_case.proofs.Room.{cells-fit}
 use Rattle.price_list.specs.Listed.{Listed, InList}
 
 pub record Place (n row event : ℕ) : Type 0 where

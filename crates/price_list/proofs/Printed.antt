@@ -10,9 +10,9 @@ use lib.ListN.{take, replicate}
 use Rattle.lines.specs.Square.{cell}
 use Rattle.lines.proofs.Squares.{place-of}
 use Rattle.storm_case.specs.Case.{hut-of}
-use Rattle.storm_case.specs.Pair.{fresh}
+use Rattle.pairing.specs.Pair.{fresh}
 use Rattle.storm_case.proofs.Decides.{cut-said}
-use Rattle.storm_case.proofs.OnlyPairs.{OnlyAnswer, only-pairs, first-pairs}
+use Rattle.pairing.proofs.OnlyPairs.{OnlyAnswer, only-pairs, first-pairs}
 use Rattle.text.specs.Text.{put}
 use Rattle.price_list.specs.Lines.{allowed-of}
 use Rattle.price_list.specs.List.{cell-line}

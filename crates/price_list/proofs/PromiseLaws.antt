@@ -6,9 +6,9 @@ use Prim.Native.Nat.{ℕ, _≤_, _<_}
 use native.Mathlib.Omega.{arith}
 use lib.ListN.{getD}
 use lib.Seq.{getD-take}
-use Rattle.storm_case.specs.declared.pair.Pairs.{Pairs}
+use Rattle.pairing.specs.declared.Pairs.{Pairs}
 use Rattle.storm_case.specs.Scan.{Judged, more, refused, accepted, judged}
-use Rattle.storm_case.specs.Pair.{Loan, enough-room, front, PairPromise}
+use Rattle.pairing.specs.Pair.{Loan, enough-room, front, PairPromise}
 use Rattle.storm_case.proofs.ScanLaws.{never-more, accepted-filled, refused-some}
 use Rattle.price_list.specs.Listed.{Listed}
 

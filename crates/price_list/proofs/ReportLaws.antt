@@ -5,9 +5,9 @@ use mathlib.Core.List.{List}
 use Prim.Native.Nat.{ℕ}
 use borrow.Author.Tests.{ne-eqb}
 use lib.IntN.{ℤ}
-use Rattle.storm_case.specs.declared.pair.Pairs.{Pairs}
-use Rattle.storm_case.specs.Pair.{Loan, fresh, PairPromise}
-use Rattle.storm_case.proofs.Fronts.{fresh-room}
+use Rattle.pairing.specs.declared.Pairs.{Pairs}
+use Rattle.pairing.specs.Pair.{Loan, fresh, PairPromise}
+use Rattle.pairing.proofs.Fronts.{fresh-room}
 use Rattle.text.specs.Text.{put}
 use Rattle.text.specs.Numbers.{refusal}
 use Rattle.price_list.specs.Listed.{SumOf}

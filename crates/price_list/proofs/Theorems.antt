@@ -14,10 +14,10 @@ use Rattle.lines.proofs.Tests.{eqb-yes}
 use Rattle.lines.proofs.Squares.{place-lt, length-square, getD-inside}
 use Rattle.lines.proofs.Sumsℤ.{sumℤ-ext}
 use Rattle.steps.specs.Lent.{allows, cost-at}
-use Rattle.storm_case.specs.declared.pair.Pairs.{Pairs}
+use Rattle.pairing.specs.declared.Pairs.{Pairs}
 use Rattle.storm_case.specs.Scan.{Scan, Judged, more, refused, accepted, judged}
 use Rattle.storm_case.specs.Case.{pair-cost, mask-byte, filled}
-use Rattle.storm_case.specs.Pair.{Loan, enough-room, front, Solved, PairPromise}
+use Rattle.pairing.specs.Pair.{Loan, enough-room, front, Solved, PairPromise}
 use Rattle.storm_case.proofs.ScanLaws.{never-more, accepted-filled, refused-some}
 use Rattle.price_list.specs.Listed.{SumOf}
 use Rattle.price_list.proofs.SolverLaws.{pair-adds, allowed-adds, row-prices-held, column-prices-held}

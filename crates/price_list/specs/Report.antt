@@ -7,10 +7,10 @@ use lib.Dec.{eqb}
 use lib.IntN.{pos}
 use lib.ListN.{getD, replicate}
 use Rattle.lines.specs.Sum.{sumℤ}
-use Rattle.storm_case.specs.declared.pair.Pairs.{Pairs}
+use Rattle.pairing.specs.declared.Pairs.{Pairs}
 use Rattle.storm_case.specs.Case.{hut-of}
 use Rattle.storm_case.specs.Said.{said}
-use Rattle.storm_case.specs.Pair.{Loan, fresh, PairPromise}
+use Rattle.pairing.specs.Pair.{Loan, fresh, PairPromise}
 use Rattle.text.specs.Text.{put}
 use Rattle.text.specs.Numbers.{refusal}
 use Rattle.price_list.specs.List.{list}

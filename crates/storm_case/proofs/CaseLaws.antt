@@ -18,7 +18,7 @@ use Rattle.storm_case.specs.Numbers.{u16-at}
 use Rattle.storm_case.specs.Scan as D
 use Rattle.storm_case.specs.View.{view-scan, view-judged, Agrees, Fillable}
 use Rattle.storm_case.specs.Case.{hut-of, pair-cost, mask-byte, filled, case, case-of, has-cells, read, hut-in, hut}
-use Rattle.storm_case.proofs.Fronts.{cells-fit, Front, front-of, cells-are}
+use Rattle.storm_case.proofs.Room.{cells-fit, Front, front-of, cells-are}
 use Rattle.storm_case.proofs.ScanLaws.{accepted-filled}
 use Rattle.storm_case.proofs.ViewLaws.{rows-taken, columns-taken}
 

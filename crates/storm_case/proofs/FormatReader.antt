@@ -20,7 +20,7 @@ use Rattle.storm_case.specs.Scan as D
 use Rattle.storm_case.specs.Case.{clock-error, may-pair, pair-cost, mask-byte, filled, case, case-of, has-cells, read, hut-in, hut}
 use Rattle.storm_case.specs.Format.{Fragment, Event, Line, encode, WellFormed, IsCase, row-at, column-at, Matches}
 use Rattle.storm_case.specs.Format.{Allowed, PairIs, ReadAs}
-use Rattle.storm_case.proofs.Fronts.{cells-fit}
+use Rattle.storm_case.proofs.Room.{cells-fit}
 use Rattle.storm_case.proofs.ScanLaws.{never-more}
 use Rattle.storm_case.proofs.Decides.{refused-early}
 use Rattle.storm_case.proofs.FormatLaws.{accepted-exactly, well-formed-accepted}

@@ -2,16 +2,13 @@ pub mod OneRecord
 pub mod ScanLaws
 pub mod ViewLaws
 pub mod CellLaws
-pub mod Fronts
+pub mod Room
 pub mod CaseLaws
 pub mod SaidLaws
-pub mod AboutLaws
-pub mod PairLaws
 pub mod Samples
 pub mod Decides
 pub mod Longest
 pub mod Only
-pub mod OnlyPairs
 pub mod FormatBytes
 pub mod FormatScan
 pub mod FormatTaken

@@ -3,5 +3,4 @@ pub mod Scan
 pub mod View
 pub mod Case
 pub mod Format
-pub mod Pair
 pub mod Said

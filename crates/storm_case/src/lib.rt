@@ -1,17 +1,14 @@
-// The case reader: the judgement of a case file, the costs and mask that it says, the hut of a row, and its fragments paired with its events.
+// The case reader: the judgement of a case file, the costs and mask that it says, and the hut of a row.
 ghost use mathlib.Core.Path.{_≡_};
 ghost use Rattle.storm_case.specs.Case.{case, has-cells, read, hut as Case·hut};
 
 mod cells;
 mod judgement;
 mod numbers;
-mod pair;
 mod record;
 mod said;
 mod scan;
 
-pub use pair::Pairs;
-pub use pair::pair_case;
 pub use records::Found;
 pub use records::body;
 pub use records::find;
@@ -46,7 +43,7 @@ fn refused(number: u32, place: usize) -> Case
 }
 
 // Exactly 4,096 costs and 4,096 mask bytes?
-fn has_cells(costs: usize, mask: usize) -> bool
+pub fn has_cells(costs: usize, mask: usize) -> bool
     ensures { λ r. ⌜ r ≡ has-cells costs mask ⌝ }
 {
     if costs != 4096 {

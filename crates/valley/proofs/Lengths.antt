@@ -14,7 +14,7 @@ use Rattle.assignment.specs.Problem.{column, AllowedPairing, total}
 use Rattle.storm_case.specs.Numbers.{AreBytes}
 use Rattle.storm_case.specs.Scan.{Scan, accepted, judged}
 use Rattle.storm_case.specs.Case.{row-area, column-area, clock-error, may-pair, hut-of}
-use Rattle.storm_case.specs.Pair.{clock-cost}
+use Rattle.pairing.specs.Pair.{clock-cost}
 use Rattle.storm_case.proofs.FormatBytes.{small16}
 use Rattle.storm_case.proofs.SaidLaws.{said-at}
 use Rattle.text.specs.Numbers.{sign, signed, refusal}

@@ -6,7 +6,7 @@ use Prim.Native.Nat.{ℕ, _+_}
 use native.Mathlib.Numerals.{add-one}
 use borrow.Author.Tests.{ne-eqb}
 use lib.ListN.{getD}
-use Rattle.storm_case.specs.declared.pair.Pairs.{Pairs}
+use Rattle.pairing.specs.declared.Pairs.{Pairs}
 use Rattle.text.specs.Text.{put}
 use Rattle.text.specs.Numbers.{refusal}
 use Rattle.text.proofs.PutLaws.{Holds, holds-more}

@@ -4,13 +4,13 @@ use mathlib.Core.List.{[], _∷_}
 use Prim.Native.Nat.{ℕ}
 use lib.IntN.{ℤ, pos}
 use Rattle.lines.specs.Square.{each-from, each}
-use Rattle.storm_case.specs.declared.pair.Pairs.{Pairs}
+use Rattle.pairing.specs.declared.Pairs.{Pairs}
 use Rattle.records.specs.Records.{known, body-length, found}
 use Rattle.storm_case.specs.Numbers.{u16-at, u32-at}
 use Rattle.storm_case.specs.Scan.{bad-size, size, line, end, by-kind, record-of, judge-record, judge-from, judged}
 use Rattle.storm_case.specs.Case.{hut-of}
 use Rattle.storm_case.specs.Said.{said-in, said}
-use Rattle.storm_case.specs.Pair.{unpaired}
+use Rattle.pairing.specs.Pair.{unpaired}
 use Rattle.storm_case.proofs.Samples.{example}
 use Rattle.text.specs.Numbers.{decimal-from, decimal, sign, signed, refusal}
 use Rattle.valley.specs.Lines.{row-line, row-lines, total-line, lines}

@@ -6,15 +6,15 @@ use native.Mathlib.Omega.{arith}
 use lib.ListN.{length, getD, take, replicate, length-append}
 use lib.Seq.{getD-take}
 use Rattle.lines.proofs.Tests.{cases}
-use Rattle.storm_case.specs.declared.pair.Pairs.{Pairs}
+use Rattle.pairing.specs.declared.Pairs.{Pairs}
 use Rattle.storm_case.specs.Numbers.{AreBytes}
 use Rattle.storm_case.specs.Scan.{Scan, Judged, more, refused, accepted, judged}
 use Rattle.storm_case.specs.Case.{hut-of}
-use Rattle.storm_case.specs.Pair.{Loan, fresh, front, Solved, PairPromise}
-use Rattle.storm_case.proofs.Fronts.{fresh-room}
+use Rattle.pairing.specs.Pair.{Loan, fresh, front, Solved, PairPromise}
+use Rattle.pairing.proofs.Fronts.{fresh-room}
 use Rattle.storm_case.proofs.ScanLaws.{never-more, accepted-filled}
 use Rattle.storm_case.proofs.Decides.{cut-said, refused-early}
-use Rattle.storm_case.proofs.OnlyPairs.{OnlyAnswer, only-pairs, first-pairs}
+use Rattle.pairing.proofs.OnlyPairs.{OnlyAnswer, only-pairs, first-pairs}
 use Rattle.text.specs.Text.{put}
 use Rattle.text.proofs.PutLaws.{holds-whole}
 use Rattle.valley.specs.Lines.{row-lines, lines}

@@ -3,10 +3,10 @@ use mathlib.Core.Path.{_≡_}
 use mathlib.Core.List.{List}
 use Prim.Native.Nat.{ℕ}
 use lib.ListN.{replicate}
-use Rattle.storm_case.specs.declared.pair.Pairs.{Pairs}
+use Rattle.pairing.specs.declared.Pairs.{Pairs}
 use Rattle.storm_case.specs.Case.{hut-of}
 use Rattle.storm_case.specs.Said.{said}
-use Rattle.storm_case.specs.Pair.{Loan, fresh, PairPromise}
+use Rattle.pairing.specs.Pair.{Loan, fresh, PairPromise}
 use Rattle.text.specs.Text.{put}
 use Rattle.valley.specs.Lines.{lines}
 

@@ -3,7 +3,7 @@ ghost use mathlib.Core.Path.{_≡_};
 ghost use lib.ListN.{getD};
 ghost use Rattle.text.specs.Text.{put};
 ghost use Rattle.valley.specs.Lines.{row-line, row-lines, total-line, lines as Lines·lines};
-use storm_case::Pairs;
+use pairing::Pairs;
 
 fn put_row(out: &mut [u8], used: usize, hut: u16, column: u16) -> usize
     ensures { λ r. ⌜ (r, now (out .exit)) ≡ put (now (out .entry)) used (row-line hut column) ⌝ }

@@ -7,7 +7,7 @@ use Rattle.text.specs.Ascii.{ascii}
 use Rattle.text.proofs.PutLaws.{Holds, holds-begin, holds-then, holds-long}
 use Rattle.price_list.specs.List.{each-line, cell-line, every-pair}
 use Rattle.price_list.proofs.ListLaws.{holds-line}
-use Rattle.storm_case.proofs.Fronts.{cells-fit}
+use Rattle.storm_case.proofs.Room.{cells-fit}
 use Rattle.price_list.proofs.list.put_every_pair.Statement.{statement}
 use Rattle.price_list.proofs.list.put_every_pair.Tie as tie
 

@@ -2,7 +2,7 @@
 use borrow.Author.Needs.{needs}
 use mir.Syntax.{w64}
 use Rattle.lines.proofs.Wide.{back}
-use Rattle.storm_case.proofs.Fronts.{fresh-room}
+use Rattle.pairing.proofs.Fronts.{fresh-room}
 use Rattle.price_list.proofs.PromiseLaws.{few-rows, listed}
 use Rattle.price_list.proofs.ReportLaws.{report-list, report-block, report-refusal}
 use Rattle.price_list.proofs.report.report.Statement.{statement}

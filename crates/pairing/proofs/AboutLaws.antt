@@ -20,11 +20,11 @@ use Rattle.assignment.specs.Problem.{column, AllowedPairing, Block, total}
 use Rattle.steps.specs.Lent.{Task, Buffers, allows, cost-at, allowed, cost, task}
 use Rattle.steps.specs.Refusal as R
 use Rattle.steps.specs.Promise.{Fit, Promise}
-use Rattle.storm_case.specs.declared.pair.Pairs.{Pairs}
+use Rattle.pairing.specs.declared.Pairs.{Pairs}
 use Rattle.storm_case.specs.Scan.{Scan}
 use Rattle.storm_case.specs.Case.{row-area, column-area, clock-error, may-pair, pair-cost, mask-byte}
-use Rattle.storm_case.specs.Pair.{front, enough, SolvedBy, clock-cost, AboutFile}
+use Rattle.pairing.specs.Pair.{front, enough, SolvedBy, clock-cost, AboutFile}
 use Rattle.storm_case.proofs.ScanLaws.{Filled}
 
 -- ---- the cells of a file
 

@@ -2,11 +2,12 @@
 use native.Mathlib.Omega.{arith}
 use borrow.Author.Needs.{needs}
 use Rattle.steps.specs.Lent.{buffers}
-use Rattle.storm_case.specs.Pair.{Loan, loan, front}
-use Rattle.storm_case.proofs.Fronts.{cells-fit, Fronts, fronts}
-use Rattle.storm_case.proofs.PairLaws.{solved-front}
-use Rattle.storm_case.proofs.pair.solve_cells.Statement.{statement}
-use Rattle.storm_case.proofs.pair.solve_cells.Tie as tie
+use Rattle.pairing.specs.Pair.{Loan, loan, front}
+use Rattle.storm_case.proofs.Room.{cells-fit}
+use Rattle.pairing.proofs.Fronts.{Fronts, fronts}
+use Rattle.pairing.proofs.PairLaws.{solved-front}
+use Rattle.pairing.proofs.solve_cells.Statement.{statement}
+use Rattle.pairing.proofs.solve_cells.Tie as tie
 
 -- what is lent, and its fronts
 abbrev lent : tie.Start → Loan

@@ -2,10 +2,10 @@
 use mathlib.Core.Path.{refl}
 use native.Mathlib.Omega.{arith}
 use borrow.Author.Needs.{needs}
-use Rattle.storm_case.specs.Pair.{enough}
-use Rattle.storm_case.proofs.PairLaws.{enough-none, budget-fits}
-use Rattle.storm_case.proofs.pair.enough.Statement.{statement}
-use Rattle.storm_case.proofs.pair.enough.Tie as tie
+use Rattle.pairing.specs.Pair.{enough}
+use Rattle.pairing.proofs.PairLaws.{enough-none, budget-fits}
+use Rattle.pairing.proofs.enough.Statement.{statement}
+use Rattle.pairing.proofs.enough.Tie as tie
 
 returns : tie.Need-returns
 returns c = enough-none (c .if1 .taken)

@@ -16,14 +16,14 @@ use Rattle.steps.specs.declared.Answer.{Answer}
 use Rattle.steps.specs.Lent.{Buffers, task, buffers}
 use Rattle.steps.specs.Refusal as R
 use Rattle.steps.specs.Promise.{Promise}
 use Rattle.storm_case.specs.declared.Case.{Case}
-use Rattle.storm_case.specs.declared.pair.Pairs.{Pairs}
+use Rattle.pairing.specs.declared.Pairs.{Pairs}
 use Rattle.storm_case.specs.Scan as D
 use Rattle.storm_case.specs.Case.{pair-cost, mask-byte, filled, case-of, read}
-use Rattle.storm_case.specs.Pair.{Loan, loan, enough-room, front, behind, unpaired, paired, enough, SolvedBy, Solved, PairPromise}
-use Rattle.storm_case.proofs.Fronts.{Fronts, cells-lent, fronts, front-room}
+use Rattle.pairing.specs.Pair.{Loan, loan, enough-room, front, behind, unpaired, paired, enough, SolvedBy, Solved, PairPromise}
+use Rattle.pairing.proofs.Fronts.{Fronts, cells-lent, fronts, front-room}
 use Rattle.storm_case.proofs.ScanLaws.{never-more, accepted-filled, refused-some}
-use Rattle.storm_case.proofs.AboutLaws.{about-file}
+use Rattle.pairing.proofs.AboutLaws.{about-file}
 
 -- ---- the budget
 

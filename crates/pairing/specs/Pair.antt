@@ -13,9 +13,9 @@ use Rattle.steps.specs.declared.Answer.{Answer}
 use Rattle.steps.specs.Lent.{Buffers, task, buffers}
 use Rattle.steps.specs.Refusal.{room}
 use Rattle.steps.specs.Promise.{Promise}
-use Rattle.storm_case.specs.declared.pair.Pairs.{Pairs}
+use Rattle.pairing.specs.declared.Pairs.{Pairs}
 use Rattle.storm_case.specs.Scan.{Scan, refused, accepted, judged}
 use Rattle.storm_case.specs.Case.{clock-error, may-pair, pair-cost, mask-byte, filled, has-cells}
 
 -- ---- what is lent
 

@@ -5,8 +5,8 @@ ghost use Prim.Native.Nat.{_*_, _≤_};
 ghost use lib.ListN.{take};
 ghost use Rattle.steps.specs.Lent.{buffers};
 ghost use Rattle.steps.specs.Refusal.{has-room};
 ghost use Rattle.storm_case.specs.Case.{has-cells};
-ghost use Rattle.storm_case.specs.Pair.{loan, enough-room, unpaired as Pair·unpaired, paired as Pair·paired, enough as Pair·enough, SolvedBy, PairPromise};
+ghost use Rattle.pairing.specs.Pair.{loan, enough-room, unpaired as Pair·unpaired, paired as Pair·paired, enough as Pair·enough, SolvedBy, PairPromise};
 use steps::Answer;
 
 // 0 paired, 6 no pairing, or the number of a refusal with its place; the size and the window; the summed clock difference at 0; the block at 6.
@@ -72,7 +72,7 @@ fn has_room(
 ) -> bool
     ensures { λ r. ⌜ r ≡ (has-cells costs mask && has-room 4096 64 working marks columns «row_prices» «column_prices») ⌝ }
 {
-    if !crate::has_cells(costs, mask) {
+    if !storm_case::has_cells(costs, mask) {
         return false;
     }
     rules::has_room(4096, 64, working, marks, columns, row_prices, column_prices)
@@ -98,7 +98,7 @@ fn solve_cells(
 {
     let cells = n * n;
     let budget = enough(n);
-    let answer = munkres::solve_assignment(
+    let answer = quick::solve_assignment(
         n,
         &costs[..cells],
         &mask[..cells],
@@ -139,7 +139,7 @@ pub fn pair_case(
     ) {
         return unpaired(20, 0);
     }
-    let case = crate::read_case(file, costs, mask);
+    let case = storm_case::read_case(file, costs, mask);
     let number = case.number;
     let n = case.n;
     let window = case.window;

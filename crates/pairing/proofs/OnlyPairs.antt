@@ -9,11 +9,11 @@ use Rattle.lines.proofs.Tests.{by-cases}
 use Rattle.steps.specs.declared.Answer.{Answer}
 use Rattle.steps.specs.Lent.{Task, Buffers, buffers}
 use Rattle.steps.specs.Promise.{Promise}
-use Rattle.storm_case.specs.declared.pair.Pairs.{Pairs}
+use Rattle.pairing.specs.declared.Pairs.{Pairs}
 use Rattle.storm_case.specs.Scan as D
-use Rattle.storm_case.specs.Pair.{Loan, loan, enough-room, front, behind, paired, Solved, PairPromise}
+use Rattle.pairing.specs.Pair.{Loan, loan, enough-room, front, behind, paired, Solved, PairPromise}
 use Rattle.storm_case.proofs.ScanLaws.{never-more}
 use Rattle.storm_case.proofs.Decides.{cut-nothing, first-bytes}
 
 -- The same law of the solver's promise. Only the promise is known here, so a crate that knows its proof hands it in.
 abbrev pub OnlyAnswer : Type 0

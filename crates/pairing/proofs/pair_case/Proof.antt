@@ -1,10 +1,10 @@
 -- `pair_case` meets its contract, by the room that is lent and by what the file says.
 use borrow.Author.Needs.{needs}
 use Rattle.steps.specs.Lent.{buffers}
-use Rattle.storm_case.proofs.Fronts.{test-passed, test-failed}
-use Rattle.storm_case.proofs.PairLaws.{pair-crowded, pair-unread, pair-asks, pair-solved}
-use Rattle.storm_case.proofs.pair.pair_case.Statement.{statement}
-use Rattle.storm_case.proofs.pair.pair_case.Tie as tie
+use Rattle.storm_case.proofs.Room.{test-passed, test-failed}
+use Rattle.pairing.proofs.PairLaws.{pair-crowded, pair-unread, pair-asks, pair-solved}
+use Rattle.pairing.proofs.pair_case.Statement.{statement}
+use Rattle.pairing.proofs.pair_case.Tie as tie
 
 -- from what is lent to the solver to the accepted file; from the file's number to the reader; from there to the room, and to the start
 abbrev accepted : tie.After-solve-cells-arg7 → tie.Else2

@@ -1,8 +1,8 @@
 -- `has_room` meets its contract: costs and mask, then the five buffers that the solver writes.
 use borrow.Author.Needs.{needs}
-use Rattle.storm_case.proofs.Fronts.{test-passed, test-failed}
-use Rattle.storm_case.proofs.pair.has_room.Statement.{statement}
-use Rattle.storm_case.proofs.pair.has_room.Tie as tie
+use Rattle.storm_case.proofs.Room.{test-passed, test-failed}
+use Rattle.pairing.proofs.has_room.Statement.{statement}
+use Rattle.pairing.proofs.has_room.Tie as tie
 
 has-cells-requires : tie.Need-has-cells-requires
 has-cells-requires c κs = search needs

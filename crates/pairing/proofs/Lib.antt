@@ -1,0 +1,4 @@
+pub mod Fronts
+pub mod AboutLaws
+pub mod PairLaws
+pub mod OnlyPairs
