@@ -1,4 +1,5 @@
 pub mod ByteLaws
+pub mod HutLaws
 pub mod RoundTrip
 pub mod CaseFace
 pub mod Theorems

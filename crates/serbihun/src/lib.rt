@@ -1,3 +1,4 @@
-// The C face: the solver's in `solve`, the case reader's in `case`.
+// The C face: the solvers' in `solve`, the case reader's in `case`, of a case read and solved in `pair`.
 mod case;
+mod pair;
 mod solve;
