@@ -1,4 +1,4 @@
-/* A case file of two fragments and two events, read and paired from C; then files that are refused.
+/* A case file of two fragments and two events, paired from C in one call, then read and solved in two; then files that are refused.
    Exits with 0 where every answer is the expected one.
      cc -Iinclude examples/case.c target/staticlib/libserbihun.a -o case && ./case */
 #include <stdio.h>
@@ -50,6 +50,40 @@ static void expect_record(const char *what, size_t at, uint32_t number, size_t s
     expect(what, r.number, number);
     expect(what, (int64_t)r.start, (int64_t)start);
     expect(what, (int64_t)r.length, (int64_t)length);
+}
+
+/* Huts, columns and total in one call; and what a wrong room or a bad file leaves. */
+static void pair_at_once(void)
+{
+    static int64_t working[SERBIHUN_ROOM], row_prices[SERBIHUN_LINES], column_prices[SERBIHUN_LINES];
+    static uint8_t marks[SERBIHUN_ROOM];
+    static uint16_t columns[SERBIHUN_LINES], huts[SERBIHUN_LINES];
+    const size_t lines = SERBIHUN_LINES;
+    struct serbihun_pairs p;
+    size_t row;
+
+    p = serbihun_pair_case(file, sizeof file, costs, SERBIHUN_ROOM, mask, SERBIHUN_ROOM, working, SERBIHUN_ROOM, marks, SERBIHUN_ROOM,
+                           columns, lines, row_prices, lines, column_prices, lines - 1, huts, lines);
+    expect("room for a price less", p.number, SERBIHUN_WRONG_ROOM);
+    p = serbihun_pair_case(file, 39, costs, SERBIHUN_ROOM, mask, SERBIHUN_ROOM, working, SERBIHUN_ROOM, marks, SERBIHUN_ROOM,
+                           columns, lines, row_prices, lines, column_prices, lines, huts, lines);
+    expect("a cut file", p.number, SERBIHUN_CUT);
+    expect("its place", (int64_t)p.place, 39);
+    expect("what a refusal writes", huts[0] + columns[1] + costs[0], 0);
+
+    p = serbihun_pair_case(file, sizeof file, costs, SERBIHUN_ROOM, mask, SERBIHUN_ROOM, working, SERBIHUN_ROOM, marks, SERBIHUN_ROOM,
+                           columns, lines, row_prices, lines, column_prices, lines, huts, lines);
+    expect("number", p.number, SERBIHUN_PAIRED);
+    expect("n", (int64_t)p.n, N);
+    expect("window", p.window, 1000);
+    expect("total", p.total, 800);
+    expect("hut of row 0", huts[0], 7);
+    expect("hut of row 1", huts[1], 9);
+    for (row = 0; row < p.n; row++) {
+        expect("column", columns[row], (int64_t)row);
+        printf("%u %u\n", (unsigned)huts[row], (unsigned)columns[row]);
+    }
+    printf("TOTAL %lld\n", (long long)p.total);
 }
 
 /* The file's costs and mask are what the solver takes. */
@@ -163,6 +197,7 @@ static void records(void)
 
 int main(void)
 {
+    pair_at_once();
     read_and_pair();
     refusals();
     records();

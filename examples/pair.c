@@ -48,6 +48,10 @@ int main(void)
     for (i = 0; i < N * N; i++)
         expect("cost of a cell", row_prices[i / N] + column_prices[i % N] + working[i], costs[i]);
 
+    a = serbihun_solve_by_steps(N, (const uint8_t *)costs, sizeof costs, all, N * N, 3, working, N * N, marks, N * N, columns, N,
+                                row_prices, N, column_prices, N);
+    expect("total by steps", a.total, -1);
+
     expect("n = 0", solve(0, costs, sizeof costs, all, 3).number, SERBIHUN_EMPTY);
     expect("n = 65", solve(65, costs, sizeof costs, all, 3).number, SERBIHUN_TOO_LARGE);
     expect("a byte short", solve(N, costs, sizeof costs - 1, all, 3).number, SERBIHUN_WRONG_LENGTH);

@@ -1,5 +1,5 @@
 /* The C face of the assignment solver: n rows are paired with n columns at least total cost.
-   And of the case reader: a case file says costs and a mask to solve.
+   And of the case reader: a case file says costs and a mask to solve, or is paired in one call.
 
    Link target/staticlib/libserbihun.a, which `rt staticlib serbihun` makes, on x86-64 Linux.
    The library allocates nothing, keeps nothing between calls, and checks every number that it
@@ -57,6 +57,19 @@ struct serbihun_answer {
    ran, and for each allowed cell cost = row price + column price + working value; `columns` is
    changed at 0 only. */
 struct serbihun_answer serbihun_solve(
+    size_t n,
+    const uint8_t *costs, size_t costs_length,
+    const uint8_t *mask, size_t mask_length,
+    uint32_t budget,
+    int64_t *working, size_t working_length,
+    uint8_t *marks, size_t marks_length,
+    uint16_t *columns, size_t columns_length,
+    int64_t *row_prices, size_t row_prices_length,
+    int64_t *column_prices, size_t column_prices_length);
+
+/* The same answer and the same bytes, by the solver that goes step by step as document 01 writes
+   them: for an inspector who wants to watch the steps. It is slower. */
+struct serbihun_answer serbihun_solve_by_steps(
     size_t n,
     const uint8_t *costs, size_t costs_length,
     const uint8_t *mask, size_t mask_length,
@@ -133,8 +146,53 @@ struct serbihun_record {
 
 /* The body of the record whose kind byte is at an offset: always a part of the file, and an empty
    one at 21 and 22. Nothing else of the file is judged. The next record's kind byte is due at
-   start + length. */
+   start + length. In C++ the function hides the struct of its name, which is then written with
+   `struct`. */
+#if defined(__cplusplus) && defined(__GNUC__)
+#pragma GCC diagnostic push
+#pragma GCC diagnostic ignored "-Wshadow"
+#endif
 struct serbihun_record serbihun_record(const uint8_t *file, size_t file_length, size_t at);
+#if defined(__cplusplus) && defined(__GNUC__)
+#pragma GCC diagnostic pop
+#endif
+
+/* ---- A case, read and solved */
+
+enum { SERBIHUN_LINES = 64 /* how many columns, row prices and column prices are lent for a case */ };
+
+struct serbihun_pairs {
+    uint32_t number;        /* SERBIHUN_PAIRED, SERBIHUN_NO_PAIRING, or 20 to 26 as above      */
+    size_t place;           /* at 21 to 26 as above; else 0                                    */
+    size_t n;               /* at 0 and 6 the size; else 0                                     */
+    uint32_t window;        /* at 0 and 6 the window; else 0                                   */
+    int64_t total;          /* at 0 the summed difference of the clocks; else 0                */
+    uint64_t block_rows;    /* at 6 a block, as in serbihun_answer; else 0                     */
+    uint64_t block_columns;
+};
+
+/* Pairs the fragments of a file with its events, at least summed difference of their clocks.
+
+   Read:     file           any bytes
+   Written:  costs, mask    SERBIHUN_ROOM each, as by serbihun_read_case
+             working, marks SERBIHUN_ROOM each, of which n n are written as by serbihun_solve
+             columns, row_prices, column_prices
+                            SERBIHUN_LINES each, of which n are written: at 0 fragment i goes with
+                            event columns[i]
+             huts           any length: the hut of each row, as far as there is room
+
+   Another length is 20, and then nothing is touched, nor at 21 to 26. Behind the first n n and n
+   places the buffers keep what they held. */
+struct serbihun_pairs serbihun_pair_case(
+    const uint8_t *file, size_t file_length,
+    int32_t *costs, size_t costs_length,
+    uint8_t *mask, size_t mask_length,
+    int64_t *working, size_t working_length,
+    uint8_t *marks, size_t marks_length,
+    uint16_t *columns, size_t columns_length,
+    int64_t *row_prices, size_t row_prices_length,
+    int64_t *column_prices, size_t column_prices_length,
+    uint16_t *huts, size_t huts_length);
 
 #ifdef __cplusplus
 }
