@@ -110,7 +110,9 @@ returns c =
     let budget = budget7 (called .before) in
     let s = begun budget in
     let kept = called .solve-assignment .kept .1 .1 .1 .1 in
-    solved-front {l = lent s} (lent-fronts s)
+    let last = called .solve-assignment .last .1 .1 .1 .1 in
+    let after = buffers (last .0) (last .1 .0) (last .1 .1 .0) (last .1 .1 .1 .0) (last .1 .1 .1 .1 .0) in
+    solved-front {l = lent s} {after = after} (lent-fronts s)
     (record {
       working = kept .0;
       marks = kept .1 .0;
