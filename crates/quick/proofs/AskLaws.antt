@@ -21,19 +21,22 @@ use Rattle.quick.specs.Shown.{Held, shown}
 use Rattle.quick.specs.declared.step.State.{State}
 use Rattle.quick.proofs.Choose.{some-open, least-found}
 use Rattle.quick.proofs.HeldLaws.{searching-at, above, safe, safe-during, names}
-use Rattle.quick.proofs.StepHeld.{walks}
+use Rattle.quick.proofs.StepHeld.{walks, some-free}
 
-module _ (n : ℕ) (costs : List ℤ) (mask : List ℕ) (budget : ℕ) (s : State) (keys row-prices column-prices : List ℤ) (star owner prime : List ℕ) (key : List ℤ)
-    (h : Held n costs mask budget (shown n costs mask (view (s .run)) row-prices column-prices star prime) (s .risen) (s .best) keys star owner prime key) where
+module _ (n : ℕ) (costs : List ℤ) (mask : List ℕ) (budget : ℕ) (s : State) (keys row-prices column-prices : List ℤ) (star owner prime cheapest : List ℕ) (key : List ℤ)
+    (h : Held n costs mask budget (shown n costs mask (view (s .run)) row-prices column-prices star prime) (s .risen) (s .best) keys star owner prime cheapest key) where
   abbrev m : Machine
   m = shown n costs mask (view (s .run)) row-prices column-prices star prime
 
-  pub asks-3 : s .run .next ≡ Step3 → ForStep3 n keys row-prices column-prices star owner key
+  pub asks-3 : s .run .next ≡ Step3 → ForStep3 n keys row-prices column-prices star owner cheapest key
   asks-3 e = record {
     safe = safe h (pos 0) (within-zero 1099511627776);
     star-long = h .lines .star-long;
     owner-long = h .lines .owner-long;
+    cheapest-long = h .cheapest-long;
     key-long = h .key-long;
+    some = some-free h (ap view-next e);
+    known = h .known;
   }
 
   pub asks-4 : s .run .next ≡ Step4 → ForStep4 n s keys row-prices column-prices star prime key

@@ -21,37 +21,38 @@ use Rattle.quick.specs.declared.step.State.{State}
 use Rattle.quick.proofs.ShownLaws.{shown-is}
 use Rattle.quick.proofs.HeldLaws.{within-more, row-small, column-small}
 
-pub good : {n : ℕ} {costs : List ℤ} {mask : List ℕ} {budget : ℕ} {m : Machine} {risen best : ℤ} {keys : List ℤ} {star owner prime : List ℕ} {key : List ℤ}
-    → Held n costs mask budget m risen best keys star owner prime key → Good n mask budget m
+pub good : {n : ℕ} {costs : List ℤ} {mask : List ℕ} {budget : ℕ} {m : Machine} {risen best : ℤ} {keys : List ℤ} {star owner prime cheapest : List ℕ} {key : List ℤ}
+    → Held n costs mask budget m risen best keys star owner prime cheapest key → Good n mask budget m
 good {n} {costs} h = record { cost = cost-at n costs; frame = h .frame; kept = h .kept }
 
 -- ---- between two steps
 
 -- the buffers keep their lengths
-pub record SameLong (row-prices₀ column-prices₀ : List ℤ) (star₀ owner₀ prime₀ : List ℕ) (key₀ row-prices column-prices : List ℤ) (star owner prime : List ℕ) (key : List ℤ) : Type 0 where
+pub record SameLong (row-prices₀ column-prices₀ : List ℤ) (star₀ owner₀ prime₀ cheapest₀ : List ℕ) (key₀ row-prices column-prices : List ℤ) (star owner prime cheapest : List ℕ) (key : List ℤ) : Type 0 where
   pub rows : length row-prices ≡ length row-prices₀
   pub columns : length column-prices ≡ length column-prices₀
   pub stars : length star ≡ length star₀
   pub owners : length owner ≡ length owner₀
   pub primes : length prime ≡ length prime₀
+  pub cheapests : length cheapest ≡ length cheapest₀
   pub keys : length key ≡ length key₀
 
 -- some steps have led to the machine that the state shows and holds
-pub record Comes (n : ℕ) (costs : List ℤ) (mask : List ℕ) (budget : ℕ) (m : Machine) (s : State) (keys row-prices column-prices : List ℤ) (star owner prime : List ℕ) (key : List ℤ) : Type 0 where
+pub record Comes (n : ℕ) (costs : List ℤ) (mask : List ℕ) (budget : ℕ) (m : Machine) (s : State) (keys row-prices column-prices : List ℤ) (star owner prime cheapest : List ℕ) (key : List ℤ) : Type 0 where
   pub coming : Coming n mask budget m (shown n costs mask (view (s .run)) row-prices column-prices star prime)
-  pub held : Held n costs mask budget (shown n costs mask (view (s .run)) row-prices column-prices star prime) (s .risen) (s .best) keys star owner prime key
+  pub held : Held n costs mask budget (shown n costs mask (view (s .run)) row-prices column-prices star prime) (s .risen) (s .best) keys star owner prime cheapest key
 
 -- ---- the start
 
 pub held-started : {n : ℕ} {costs : List ℤ} {mask : List ℕ} {budget : ℕ} (f : Frame n mask (cost-at n costs)) → Holds f → Kept f budget (S.start n (allows n mask) (cost-at n costs))
-    → (s : State) {keys row-prices column-prices : List ℤ} {star owner prime : List ℕ} {key : List ℤ} → Started n costs mask s keys row-prices column-prices star owner prime → n ≤ length key
-    → Held n costs mask budget (shown n costs mask (view (s .run)) row-prices column-prices star prime) (s .risen) (s .best) keys star owner prime key
+    → (s : State) {keys row-prices column-prices : List ℤ} {star owner prime cheapest : List ℕ} {key : List ℤ} → Started n costs mask s keys row-prices column-prices star owner prime cheapest → n ≤ length key
+    → Held n costs mask budget (shown n costs mask (view (s .run)) row-prices column-prices star prime) (s .risen) (s .best) keys star owner prime cheapest key
     × (S.start n (allows n mask) (cost-at n costs) ≡ shown n costs mask (view (s .run)) row-prices column-prices star prime)
 unfolding S.start
-held-started {n} {costs} {mask} {budget} f holds k s {keys} {star = star} {owner} {prime} {key} b long =
+held-started {n} {costs} {mask} {budget} f holds k s {keys} {star = star} {owner} {prime} {cheapest} {key} b long =
     let m = S.start n (allows n mask) (cost-at n costs) in
     let starred = sound-at k S.Step3 refl .0 in
-    let h : Held n costs mask budget m (s .risen) (s .best) keys star owner prime key = record {
+    let h : Held n costs mask budget m (s .risen) (s .best) keys star owner prime cheapest key = record {
       frame = f;
       holds = holds;
       kept = k;
@@ -65,6 +66,8 @@ held-started {n} {costs} {mask} {budget} f holds k s {keys} {star = star} {owner
         prime-is = λ i hi. b .no-prime i hi ∙ sym (find-prime (starred .shows) i (λ l. absurd (omega arith)) ∙ (let q : min n n ≡ n = omega arith in q));
       };
       key-long = long;
+      cheapest-long = b .cheapest-long;
+      known = λ i hi l f. absurd (omega (arith, b .none-known i hi));
       searching = tt;
     } in
     let e = shown-is h (sym (b .begun)) (sym (b .row-prices-are)) (sym (b .column-prices-are)) in
@@ -72,8 +75,8 @@ held-started {n} {costs} {mask} {budget} f holds k s {keys} {star = star} {owner
 
 -- ---- the end
 
-module _ {n : ℕ} {costs : List ℤ} {mask : List ℕ} {budget : ℕ} {m : Machine} {r : State} {keys row-prices column-prices : List ℤ} {star owner prime : List ℕ} {key : List ℤ}
-    (x : Reached n costs mask budget m r keys row-prices column-prices star owner prime key) where
+module _ {n : ℕ} {costs : List ℤ} {mask : List ℕ} {budget : ℕ} {m : Machine} {r : State} {keys row-prices column-prices : List ℤ} {star owner prime cheapest : List ℕ} {key : List ℤ}
+    (x : Reached n costs mask budget m r keys row-prices column-prices star owner prime cheapest key) where
   -- with the working values and the marks that are then written
   pub came-to : {before : Machine} {working : List ℤ} {marks : List ℕ} → before ≡ m → working ≡ working-of n costs mask row-prices column-prices → marks ≡ marks-of n star prime
       → Came n mask budget before (machine (view (r .run)) working marks row-prices column-prices)

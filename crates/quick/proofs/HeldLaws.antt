@@ -19,7 +19,7 @@ use Rattle.ground.proofs.GoodLaws.{kept-step, kept-bounds}
 use Rattle.quick.specs.Keys.{far, limit, pack, entry}
 use Rattle.quick.specs.Best.{key-at}
 use Rattle.quick.specs.Asks.{Safe, Names}
-use Rattle.quick.specs.Ways.{term-at}
+use Rattle.quick.specs.Ways.{term-at, starred, Known}
 use Rattle.quick.specs.Shown.{most-value, Lines, During, Searching, Held}
 use Rattle.quick.proofs.Packs.{times-parts, pack-pos}
 use Rattle.quick.proofs.Choose.{value, row-named, column-named, key-is}
@@ -29,8 +29,8 @@ use Rattle.steps.specs.Steps as S
 pub within-more : {L M : ℕ} {z : ℤ} → L ≤ M → Within L z → Within M z
 within-more {L} {M} {z} h w = record { above = omega (signed, w .above, neg-parts (pos L), neg-parts (pos M)); below = omega (signed, w .below) }
 
-module _ {n : ℕ} {costs : List ℤ} {mask : List ℕ} {budget : ℕ} {m : Machine} {risen best : ℤ} {keys : List ℤ} {star owner prime : List ℕ} {key : List ℤ}
-    (h : Held n costs mask budget m risen best keys star owner prime key) where
+module _ {n : ℕ} {costs : List ℤ} {mask : List ℕ} {budget : ℕ} {m : Machine} {risen best : ℤ} {keys : List ℤ} {star owner prime cheapest : List ℕ} {key : List ℤ}
+    (h : Held n costs mask budget m risen best keys star owner prime cheapest key) where
   abbrev pub ok : ℕ → ℕ → Bool
   ok = allows n mask
 
@@ -147,15 +147,18 @@ module _ {n : ℕ} {costs : List ℤ} {mask : List ℕ} {budget : ℕ} {m : Mach
 
   -- ---- the machine's step, told of the code's arrays
 
-  pub held-next : {m′ : Machine} {risen′ best′ : ℤ} {star′ owner′ prime′ : List ℕ} {key′ : List ℤ} → S.step n ok budget m ≡ m′
-      → Lines n (m′ .marks) star′ owner′ prime′ → n ≤ length key′ → Searching (m′ .run .next) n ok m′ risen′ best′ key′
-      → Held n costs mask budget (S.step n ok budget m) risen′ best′ keys star′ owner′ prime′ key′
-  held-next {m′} {risen′} {best′} {star′} {owner′} {prime′} {key′} e l k s = record {
+  pub held-next : {m′ : Machine} {risen′ best′ : ℤ} {star′ owner′ prime′ cheapest′ : List ℕ} {key′ : List ℤ} → S.step n ok budget m ≡ m′
+      → Lines n (m′ .marks) star′ owner′ prime′ → n ≤ length key′ → n ≤ length cheapest′ → Known n (starred n owner′) keys (m′ .row-prices) (m′ .column-prices) cheapest′
+      → Searching (m′ .run .next) n ok m′ risen′ best′ key′
+      → Held n costs mask budget (S.step n ok budget m) risen′ best′ keys star′ owner′ prime′ cheapest′ key′
+  held-next {m′} {risen′} {best′} {star′} {owner′} {prime′} {cheapest′} {key′} e l k c w s = record {
     frame = h .frame;
     holds = h .holds;
     kept = kept-step (h .kept);
     table = h .table;
     lines = subst (λ y. Lines n (y .marks) star′ owner′ prime′) (sym e) l;
     key-long = k;
+    cheapest-long = c;
+    known = subst (λ y. Known n (starred n owner′) keys (y .row-prices) (y .column-prices) cheapest′) (sym e) w;
     searching = subst (λ y. Searching (y .run .next) n ok y risen′ best′ key′) (sym e) s;
   }

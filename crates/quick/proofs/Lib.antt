@@ -7,6 +7,7 @@ pub mod KeyBits
 pub mod Lowers
 pub mod Flips
 pub mod OpenColumns
+pub mod Cheapests
 pub mod LineLaws
 pub mod PathLaws
 pub mod Starrings

@@ -76,11 +76,12 @@ module _ (rows : ℕ) (key : ℕ → ℤ) where
 -- ---- the rows' keys and the least of all
 
 module _ (B n : ℕ) (ok : ℕ → ℕ → Bool) (limit : ℤ) (beyond : limit ≤ℤ far) (working : List ℤ) (risen : ℤ) where
-  pub best-of : {rows columns : ℕ} {key : ℕ → ℤ} → Keys B n ok limit working rows columns risen key
-      → Best B n ok limit working rows columns risen (least-key rows key n)
-  best-of {rows} {columns} {key} k = record {
-    low = λ i j hi hj o. let l = least-low rows key n i hi (o .row) in let q = k .low i j hi hj o in omega signed;
-    hit = λ near. cases (least-hit rows key n)
+  -- what is not above the key of any uncovered row, and is far or one of them
+  pub best-from : {rows columns : ℕ} {key : ℕ → ℤ} {best : ℤ} → ((i : ℕ) → i < n → T (not (has rows i)) → best ≤ℤ key i) → (best ≡ far) ⊎ RowKey rows key n best
+      → Keys B n ok limit working rows columns risen key → Best B n ok limit working rows columns risen best
+  best-from {best = best} low hit k = record {
+    low = λ i j hi hj o. let l = low i hi (o .row) in let q = k .low i j hi hj o in omega signed;
+    hit = λ near. cases hit
         (λ e. absurd (omega (signed, near, e, beyond)))
         (λ r. record {
           row = r .row;
@@ -88,6 +89,10 @@ module _ (B n : ℕ) (ok : ℕ → ℕ → Bool) (limit : ℤ) (beyond : limit �
           in-row = rw (r .value) (k .hit (r .row) (r .row-below) (r .is-open) (rw (r .value) at near));
         });
   }
+
+  pub best-of : {rows columns : ℕ} {key : ℕ → ℤ} → Keys B n ok limit working rows columns risen key
+      → Best B n ok limit working rows columns risen (least-key rows key n)
+  best-of {rows} {columns} {key} k = best-from (least-low rows key n) (least-hit rows key n) k
 
   -- no column is open yet
   pub keys-none : {rows : ℕ} {key : ℕ → ℤ} → ((i : ℕ) → i < n → key i ≡ far) → Keys B n ok limit working rows (all n) risen key

@@ -22,8 +22,8 @@ use Rattle.quick.proofs.HeldLaws.{priced}
 use Rattle.steps.specs.Steps as S
 use Rattle.steps.proofs.Path as Path
 
-module _ {n : ℕ} {costs : List ℤ} {mask : List ℕ} {budget : ℕ} {m : Machine} {risen best : ℤ} {keys : List ℤ} {star owner prime : List ℕ} {key : List ℤ}
-    (h : Held n costs mask budget m risen best keys star owner prime key) where
+module _ {n : ℕ} {costs : List ℤ} {mask : List ℕ} {budget : ℕ} {m : Machine} {risen best : ℤ} {keys : List ℤ} {star owner prime cheapest : List ℕ} {key : List ℤ}
+    (h : Held n costs mask budget m risen best keys star owner prime cheapest key) where
   abbrev value : ℕ → ℕ → ℤ
   value i j = cond (allows n mask i j) (cost-at n costs i j -ℤ getD (m .row-prices) i (pos 0) -ℤ getD (m .column-prices) j (pos 0)) (pos 0)
 

@@ -12,10 +12,10 @@ use lib.Signed.{ltZ, _≤ℤ_}
 use lib.ListN.{length, getD, set}
 use Rattle.lines.specs.Count.{count}
 use Rattle.lines.specs.Square.{cell, table}
-use Rattle.lines.specs.Sets.{has, with, those}
-use Rattle.lines.proofs.Tests.{T-false, by-cases}
+use Rattle.lines.specs.Sets.{has, with, rest}
+use Rattle.lines.proofs.Tests.{T-false, by-cases, clash}
 use Rattle.lines.proofs.Counts.{count-miss, count-ext}
-use Rattle.lines.proofs.Sets.{ext, has-those, those-lt}
+use Rattle.lines.proofs.Sets.{ext, has-empty, has-rest, has-those, those-lt}
 use Rattle.lines.proofs.Signed.{signed, plus-parts, minus-parts, within-zero}
 use Rattle.steps.specs.Lent.{allows}
 use Rattle.steps.specs.Steps.{Machine, machine, star-in-row, star-in-column, covering, reaching, adjusting, augmenting, to, followed, lowered, raised}
@@ -28,11 +28,12 @@ use Rattle.ground.proofs.Arms.{arm-3, arm-4, arm-5, arm-6}
 use Rattle.ground.proofs.GoodLaws.{sound-at}
 use Rattle.quick.specs.Keys.{limit, pack, value-of, row-of, column-of, lesser, lowered-key, least-key}
 use Rattle.quick.specs.Best.{key-at, Best}
-use Rattle.quick.specs.Ways.{term-at, Opens, flipped, Follows}
+use Rattle.quick.specs.Ways.{term-at, own-term, starred, Known, Opens, flipped, Follows}
 use Rattle.quick.specs.Shown.{Lines, During, Held}
 use Rattle.quick.proofs.Choose.{zero-here, row-named, column-named}
 use Rattle.quick.proofs.Opens.{best-of, keys-covered, keys-opened}
 use Rattle.quick.proofs.OpenColumns.{beyond}
+use Rattle.quick.proofs.Cheapests.{is-free, free-is, known-raised, known-flipped}
 use Rattle.quick.proofs.Adjusts.{keys-adjusted, best-adjusted}
 use Rattle.quick.proofs.Keyed.{keyed-none, keyed-above, keyed-zero, keyed-blocked, keyed-spent, keyed-adjusts}
 use Rattle.quick.proofs.LineLaws.{lines-primed, same-star, same-owner}
@@ -40,8 +41,8 @@ use Rattle.quick.proofs.PathLaws.{path-follows, lines-flipped}
 use Rattle.quick.proofs.HeldLaws.{above, bounded, risen-small, told-at, shut-at, column-small, held-next}
 use Rattle.steps.specs.Steps as S
 
-module _ {n : ℕ} {costs : List ℤ} {mask : List ℕ} {budget : ℕ} {m : Machine} {risen best : ℤ} {keys : List ℤ} {star owner prime : List ℕ} {key : List ℤ}
-    (h : Held n costs mask budget m risen best keys star owner prime key) where
+module _ {n : ℕ} {costs : List ℤ} {mask : List ℕ} {budget : ℕ} {m : Machine} {risen best : ℤ} {keys : List ℤ} {star owner prime cheapest : List ℕ} {key : List ℤ}
+    (h : Held n costs mask budget m risen best keys star owner prime cheapest key) where
   abbrev ok : ℕ → ℕ → Bool
   ok = allows n mask
 
@@ -68,8 +69,8 @@ module _ {n : ℕ} {costs : List ℤ} {mask : List ℕ} {budget : ℕ} {m : Mach
         sym (arm-4 n ok budget m e (sym (keyed-above 64 n ok limit (h .frame .word .most) (m .working) (m .run) (d .rise) (above h) (least d) (m .marks) f (rw (d .risen-is) at t))))
 
     pub held-none : next ≡ machine (to S.Step6 (m .run)) (m .working) (m .marks) (m .row-prices) (m .column-prices)
-        → Held n costs mask budget next risen best keys star owner prime key
-    held-none q = held-next h q (h .lines) (h .key-long) (record {
+        → Held n costs mask budget next risen best keys star owner prime cheapest key
+    held-none q = held-next h q (h .lines) (h .key-long) (h .cheapest-long) (h .known) (record {
       rise = d .rise;
       risen-is = d .risen-is;
       keys = d .keys;
@@ -125,9 +126,9 @@ module _ {n : ℕ} {costs : List ℤ} {mask : List ℕ} {budget : ℕ} {m : Mach
           zero-made ∙ ap (λ b. machine (cond b (covering i (star-in-row n marked i) (m .run)) (reaching i j (m .run))) (m .working) marked (m .row-prices) (m .column-prices))
           (le-ltb (star-in-row n marked i) n (rw star-at at l))
 
-      pub held-reaches : {risen′ best′ : ℤ} → n ≤ getD star i 0 → Held n costs mask budget next risen′ best′ keys star owner (set prime i j) key
+      pub held-reaches : {risen′ best′ : ℤ} → n ≤ getD star i 0 → Held n costs mask budget next risen′ best′ keys star owner (set prime i j) cheapest key
       unfolding reaching
-      held-reaches l = held-next h (reaches-made l) lines (h .key-long) tt
+      held-reaches l = held-next h (reaches-made l) lines (h .key-long) (h .cheapest-long) (h .known) tt
 
       -- in a row with one
       module _ (l : getD star i 0 < n) where
@@ -146,7 +147,7 @@ module _ {n : ℕ} {costs : List ℤ} {mask : List ℕ} {budget : ℕ} {m : Mach
 
         pub held-covers : (key′ : List ℤ) → n ≤ length key′
             → ((a : ℕ) → a < n → getD key′ a (pos 0) ≡ lowered-key (with (m .run .rows) i) term a (getD key a (pos 0)))
-            → Held n costs mask budget next risen (least-key (with (m .run .rows) i) (λ a. lesser (getD key a (pos 0)) (term a)) n) keys star owner (set prime i j) key′
+            → Held n costs mask budget next risen (least-key (with (m .run .rows) i) (λ a. lesser (getD key a (pos 0)) (term a)) n) keys star owner (set prime i j) cheapest key′
         unfolding covering lowered-key
         held-covers key′ long new =
             let k0 = keys-covered 64 n ok limit beyond (m .working) risen i (d .keys) in
@@ -154,7 +155,7 @@ module _ {n : ℕ} {costs : List ℤ} {mask : List ℕ} {budget : ℕ} {m : Mach
             (λ a ha u. new a ha ∙ rw (T-false (has (with (m .run .rows) i) a) u)) k0 in
             let k2 = keys-opened 64 n ok limit beyond (m .working) risen {rows = with (m .run .rows) i} {columns = m .run .columns} {key = λ a. getD key a (pos 0)} {key′ = λ a. lesser (getD key a (pos 0)) (term a)} {term = term} s l (λ a ha u t. told-at h risen s l a ha t) (λ a ha u t. shut-at h risen (risen-small h d) s l a ha t)
             (λ a ha u. refl) k0 in
-            held-next h covers-made lines long (record {
+            held-next h covers-made lines long (h .cheapest-long) (h .known) (record {
               rise = d .rise;
               risen-is = d .risen-is;
               keys = k1;
@@ -172,16 +173,16 @@ module _ {n : ℕ} {costs : List ℤ} {mask : List ℕ} {budget : ℕ} {m : Mach
     blocked-made f =
         sym (arm-6 n ok budget m e (sym (keyed-blocked 64 n ok limit (h .frame .word .most) (m .working) (m .run) (d .rise) (above h) (least d) budget (m .row-prices) (m .column-prices) (limited d) f)))
 
-    pub held-blocked : ltZ best limit ≡ false → Held n costs mask budget next risen best keys star owner prime key
-    held-blocked f = held-next h (blocked-made f) (h .lines) (h .key-long) tt
+    pub held-blocked : ltZ best limit ≡ false → Held n costs mask budget next risen best keys star owner prime cheapest key
+    held-blocked f = held-next h (blocked-made f) (h .lines) (h .key-long) (h .cheapest-long) (h .known) tt
 
     module _ (near : ltZ best limit ≡ true) where
       pub spent-made : m .run .adjustments ≡ budget → next ≡ machine (to S.Unfinished (m .run)) (m .working) (m .marks) (m .row-prices) (m .column-prices)
       spent-made q =
           sym (arm-6 n ok budget m e (sym (keyed-spent 64 n ok limit (h .frame .word .most) (m .working) (m .run) (d .rise) (above h) (least d) budget (m .row-prices) (m .column-prices) near q)))
 
-      pub held-spent : m .run .adjustments ≡ budget → Held n costs mask budget next risen best keys star owner prime key
-      held-spent q = held-next h (spent-made q) (h .lines) (h .key-long) tt
+      pub held-spent : m .run .adjustments ≡ budget → Held n costs mask budget next risen best keys star owner prime cheapest key
+      held-spent q = held-next h (spent-made q) (h .lines) (h .key-long) (h .cheapest-long) (h .known) tt
 
       abbrev z : ℤ
       z = value-of 64 best -ℤ risen
@@ -194,25 +195,33 @@ module _ {n : ℕ} {costs : List ℤ} {mask : List ℕ} {budget : ℕ} {m : Mach
           machine (adjusting (m .run)) (followed n ok x (m .run .rows) (m .run .columns) (m .working)) (m .marks) (lowered x (m .run .rows) (m .row-prices)) (raised x (m .run .columns) (m .column-prices)))
           (sym (d .risen-is))
 
-      -- the column without a star is not covered
-      free-open : has (m .run .columns) (d .free) ≡ false
-      free-open =
+      -- a column without a star is not covered, so it rises
+      free-open : (j : ℕ) → j < n → n ≤ star-in-column n (m .marks) j → has (m .run .columns) j ≡ false
+      free-open j hj bare =
           let s : Search n ok (m .working) (m .marks) (m .run .rows) (m .run .columns) = sound-at (h .kept) S.Step6 e .0 in
-          by-cases (has (m .run .columns) (d .free))
-          (λ y. let c = s .phase .crossed (d .free) (d .free-below) (rw y tt) in
-          absurd (omega (arith, c .0, find-row (s .shows) (s .row) (s .phase .matching) (d .free) (d .free-below), d .bare)))
+          by-cases (has (m .run .columns) j)
+          (λ y. let c = s .phase .crossed j hj (rw y tt) in absurd (omega (arith, c .0, find-row (s .shows) (s .row) (s .phase .matching) j hj, bare)))
           (λ y. y)
 
-      pub held-adjusts : m .run .adjustments ≢ budget → Held n costs mask budget next (value-of 64 best) best keys star owner prime key
+      free-raised : (j : ℕ) → j < n → n ≤ star-in-column n (m .marks) j → getD (raised z (m .run .columns) (m .column-prices)) j (pos 0) ≡ getD (m .column-prices) j (pos 0) +ℤ z
+      free-raised j hj bare = raised-at z (m .run .columns) (m .column-prices) j (omega (arith, hj, h .kept .going .shape .column-prices)) ∙ rw (free-open j hj bare)
+
+      known-risen : Known n (starred n owner) keys (lowered z (m .run .rows) (m .row-prices)) (raised z (m .run .columns) (m .column-prices)) cheapest
+      known-risen =
+          known-raised n (starred n owner) keys (m .row-prices) (m .column-prices) (lowered z (m .run .rows) (m .row-prices)) (raised z (m .run .columns) (m .column-prices)) cheapest z
+          (λ j hj f. free-raised j hj (rw (h .lines .owner-is j hj) at (is-free n owner j hj f)))
+          (h .known)
+
+      pub held-adjusts : m .run .adjustments ≢ budget → Held n costs mask budget next (value-of 64 best) best keys star owner prime cheapest key
       unfolding adjusting value-of
       held-adjusts q =
           let c = getD (m .column-prices) (d .free) (pos 0) in
           let v = value-of 64 best in
           let rise : v ≡ risen +ℤ z = omega (signed, minus-parts v risen, plus-parts risen z) in
           let new : getD (raised z (m .run .columns) (m .column-prices)) (d .free) (pos 0) ≡ c +ℤ z =
-          raised-at z (m .run .columns) (m .column-prices) (d .free) (omega (arith, d .free-below, h .kept .going .shape .column-prices)) ∙ rw free-open in
+          free-raised (d .free) (d .free-below) (d .bare) in
           let same : (c +ℤ z) -ℤ v ≡ c -ℤ risen = omega (signed, minus-parts v risen, plus-parts c z, minus-parts (c +ℤ z) v, minus-parts c risen) in
-          held-next h (adjusts-made q) (h .lines) (h .key-long) (record {
+          held-next h (adjusts-made q) (h .lines) (h .key-long) (h .cheapest-long) known-risen (record {
             rise = _;
             risen-is = refl;
             keys = rw (← rise) at (keys-adjusted 64 n ok limit (m .working) (m .run .rows) (m .run .columns) risen z (h .kept .going .shape .working) (d .keys));
@@ -240,9 +249,10 @@ module _ {n : ℕ} {costs : List ℤ} {mask : List ℕ} {budget : ℕ} {m : Mach
     flips-made = sym (arm-5 n ok budget m e refl)
 
     pub held-flips : {star′ owner′ prime′ : List ℕ} (risen′ best′ : ℤ) → (star′, owner′) ≡ flipped n prime n star owner i j → prime′ ≡ table (λ k. n) (length prime)
-        → Held n costs mask budget next risen′ best′ keys star′ owner′ prime′ key
+        → Held n costs mask budget next risen′ best′ keys star′ owner′ prime′ cheapest key
     unfolding augmenting
-    held-flips risen′ best′ a b = held-next h flips-made (lines-flipped ready (h .lines) a b) (h .key-long) tt
+    held-flips risen′ best′ a b = held-next h flips-made (lines-flipped ready (h .lines) a b) (h .key-long) (h .cheapest-long)
+        (known-flipped n prime star owner i j keys (m .row-prices) (m .column-prices) cheapest walks (h .lines .owner-long) a (h .known)) tt
 
   -- ---- step 3
 
@@ -251,7 +261,7 @@ module _ {n : ℕ} {costs : List ℤ} {mask : List ℕ} {budget : ℕ} {m : Mach
     at-3 = sound-at (h .kept) S.Step3 e
 
     -- what the arrays count is what the marks show
-    columns-are : those (λ b. ltb (getD owner b 0) n) n ≡ S.star-columns n (m .marks)
+    columns-are : starred n owner ≡ S.star-columns n (m .marks)
     unfolding S.star-columns
     columns-are =
         ext n _ _ (those-lt _ n) (those-lt _ n)
@@ -262,7 +272,7 @@ module _ {n : ℕ} {costs : List ℤ} {mask : List ℕ} {budget : ℕ} {m : Mach
     stars-are = count-ext _ _ n (λ a ha. ap (λ x. ltb x n) (h .lines .star-is a ha))
 
     abbrev crossed : S.Next → S.Run
-    crossed x = S.run-with (m .run .rows) (those (λ b. ltb (getD owner b 0) n) n) (m .run .adjustments) (m .run .primes) (m .run .augmentations) x
+    crossed x = S.run-with (m .run .rows) (starred n owner) (m .run .adjustments) (m .run .primes) (m .run .augmentations) x
 
     pub full-made : count (λ a. ltb (getD star a 0) n) n ≡ n → next ≡ machine (crossed S.Paired) (m .working) (m .marks) (m .row-prices) (m .column-prices)
     unfolding S.step3
@@ -275,13 +285,13 @@ module _ {n : ℕ} {costs : List ℤ} {mask : List ℕ} {budget : ℕ} {m : Mach
         sym (arm-3 n ok budget m e refl) ∙ rw (← columns-are, ← stars-are, ne-eqb (count (λ a. ltb (getD star a 0) n) n) n q)
 
     pub held-full : {key′ : List ℤ} (risen′ best′ : ℤ) → n ≤ length key′ → count (λ a. ltb (getD star a 0) n) n ≡ n
-        → Held n costs mask budget next risen′ best′ keys star owner prime key′
-    held-full risen′ best′ long q = held-next h (full-made q) (h .lines) long tt
+        → Held n costs mask budget next risen′ best′ keys star owner prime cheapest key′
+    held-full risen′ best′ long q = held-next h (full-made q) (h .lines) long (h .cheapest-long) (h .known) tt
 
-    -- a column without a star
+    -- a column without a star, by the marks and by the set
     free-column : count (λ a. ltb (getD star a 0) n) n ≢ n → (b : ℕ) × (b < n) × (n ≤ star-in-column n (m .marks) b)
     free-column q =
-        let c = those (λ b. ltb (getD owner b 0) n) n in
+        let c = starred n owner in
         let s = begun n ok {rows = m .run .rows} {columns = c} (at-3 .0) (at-3 .1) columns-are (λ x. q (stars-are ∙ x)) in
         let few = covers (s .phase) in
         let x = count-miss (has c) n (omega (arith, few, s .missing)) in
@@ -289,15 +299,22 @@ module _ {n : ℕ} {costs : List ℤ} {mask : List ℕ} {budget : ℕ} {m : Mach
         ap (λ y. ltb y n) (sym (h .lines .owner-is (x .0) (x .1))) ∙ sym (has-those _ n (x .0) (x .1)) ∙ T-false _ (x .2) in
         (x .0, x .1, ltb-false _ n f)
 
-    pub held-part : {key′ : List ℤ} (best′ : ℤ) → n ≤ length key′ → count (λ a. ltb (getD star a 0) n) n ≢ n
-        → Opens n (those (λ b. ltb (getD owner b 0) n) n) keys (m .row-prices) (m .column-prices) key′ best′
-        → Held n costs mask budget next (pos 0) best′ keys star owner prime key′
-    held-part {key′} best′ long q o =
+    pub some-free : count (λ a. ltb (getD star a 0) n) n ≢ n → rest n (starred n owner) ≢ 0
+    some-free q none =
+        let f = free-column q in
+        let bare = free-is n owner (f .0) (f .1) (rw (h .lines .owner-is (f .0) (f .1)) (f .2)) in
+        clash (has (rest n (starred n owner)) (f .0)) (has-rest n (starred n owner) (f .0) (f .1) ∙ rw bare) (rw (none, has-empty (f .0)))
+
+    pub held-part : {cheapest′ : List ℕ} {key′ : List ℤ} (best′ : ℤ) → n ≤ length cheapest′ → n ≤ length key′ → count (λ a. ltb (getD star a 0) n) n ≢ n
+        → Opens n (starred n owner) keys (m .row-prices) (m .column-prices) key′ best′
+        → Known n (starred n owner) keys (m .row-prices) (m .column-prices) cheapest′
+        → Held n costs mask budget next (pos 0) best′ keys star owner prime cheapest′ key′
+    held-part {key′ = key′} best′ wide long q o w =
         let f = free-column q in
         let x = o ok (m .working) (λ i j hi hj t. told-0 i j hi hj t) (λ i j hi hj t. shut-0 i j hi hj t) in
         let c = getD (m .column-prices) (f .0) (pos 0) in
         let same : c -ℤ pos 0 ≡ c = omega (signed, minus-parts c (pos 0)) in
-        held-next h (part-made q) (h .lines) long (record {
+        held-next h (part-made q) (h .lines) long wide w (record {
           rise = 0;
           risen-is = refl;
           keys = rw (at-3 .1) (x .0);
@@ -308,13 +325,13 @@ module _ {n : ℕ} {costs : List ℤ} {mask : List ℕ} {budget : ℕ} {m : Mach
           from = rw same (column-small h (f .0) (f .1));
         })
       where
-        told-0 : (i j : ℕ) → i < n → j < n → T (ok i j) → term-at n keys (m .row-prices) j (getD (m .column-prices) j (pos 0)) i ≡ pack 64 (cell (pos 0) n (m .working) i j +ℤ pos 0) j i
+        told-0 : (i j : ℕ) → i < n → j < n → T (ok i j) → own-term n keys (m .row-prices) (m .column-prices) j i ≡ pack 64 (cell (pos 0) n (m .working) i j +ℤ pos 0) j i
         told-0 i j hi hj t =
             let q = getD (m .column-prices) j (pos 0) in
             let e : q ≡ q -ℤ pos 0 = omega (signed, minus-parts q (pos 0)) in
             ap (λ y. term-at n keys (m .row-prices) j y i) e ∙ told-at h (pos 0) j hj i hi t
 
-        shut-0 : (i j : ℕ) → i < n → j < n → T (not (ok i j)) → limit ≤ℤ term-at n keys (m .row-prices) j (getD (m .column-prices) j (pos 0)) i
+        shut-0 : (i j : ℕ) → i < n → j < n → T (not (ok i j)) → limit ≤ℤ own-term n keys (m .row-prices) (m .column-prices) j i
         shut-0 i j hi hj t =
             let q = getD (m .column-prices) j (pos 0) in
             let e : q -ℤ pos 0 ≡ q = omega (signed, minus-parts q (pos 0)) in

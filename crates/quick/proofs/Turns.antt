@@ -24,29 +24,30 @@ use Rattle.quick.proofs.StepHeld.{none-made, above-made, held-none, rea
 use Rattle.quick.proofs.HeldLaws.{searching-at}
 use Rattle.quick.proofs.ShownLaws.{shown-is}
 
-module _ {n : ℕ} {costs : List ℤ} {mask : List ℕ} {budget : ℕ} {m : Machine} {keys : List ℤ} {star owner prime : List ℕ} {key : List ℤ} where
+module _ {n : ℕ} {costs : List ℤ} {mask : List ℕ} {budget : ℕ} {m : Machine} {keys : List ℤ} {star owner prime cheapest : List ℕ} {key : List ℤ} where
   -- the machine's next is held, and has the code's run and prices
   turned : (r : State) {row-prices column-prices : List ℤ} {x : Machine} → S.step n (allows n mask) budget m ≡ x → x .run ≡ view (r .run) → x .row-prices ≡ row-prices → x .column-prices ≡ column-prices
-      → Held n costs mask budget (S.step n (allows n mask) budget m) (r .risen) (r .best) keys star owner prime key
-      → Turned n costs mask budget m r keys row-prices column-prices star owner prime key
+      → Held n costs mask budget (S.step n (allows n mask) budget m) (r .risen) (r .best) keys star owner prime cheapest key
+      → Turned n costs mask budget m r keys row-prices column-prices star owner prime cheapest key
   turned r p a b c h =
       let e = shown-is h (ap (λ y. y .run) p ∙ a) (ap (λ y. y .row-prices) p ∙ b) (ap (λ y. y .column-prices) p ∙ c) in
       record { made = sym e; held = rw e at h }
 
-module _ (n : ℕ) (costs : List ℤ) (mask : List ℕ) (budget : ℕ) (s : State) (keys row-prices column-prices : List ℤ) (star owner prime : List ℕ) (key : List ℤ)
-    (h : Held n costs mask budget (shown n costs mask (view (s .run)) row-prices column-prices star prime) (s .risen) (s .best) keys star owner prime key) where
+module _ (n : ℕ) (costs : List ℤ) (mask : List ℕ) (budget : ℕ) (s : State) (keys row-prices column-prices : List ℤ) (star owner prime cheapest : List ℕ) (key : List ℤ)
+    (h : Held n costs mask budget (shown n costs mask (view (s .run)) row-prices column-prices star prime) (s .risen) (s .best) keys star owner prime cheapest key) where
   abbrev m : Machine
   m = shown n costs mask (view (s .run)) row-prices column-prices star prime
 
-  pub turned-3 : {r : State} {key′ : List ℤ} → s .run .next ≡ Step3 → length key′ ≡ length key → Crossed n s keys row-prices column-prices star owner r key′
-      → Turned n costs mask budget m r keys row-prices column-prices star owner prime key′
-  turned-3 {r} e long (full q er) = let a = ap view-next e in turned r (full-made h a q) (sym er) refl refl (held-full h a (r .risen) (r .best) (rw long (h .key-long)) q)
-  turned-3 {r} e long (part q er ez o) =
+  pub turned-3 : {r : State} {cheapest′ : List ℕ} {key′ : List ℤ} → s .run .next ≡ Step3 → length cheapest′ ≡ length cheapest → length key′ ≡ length key
+      → Crossed n s keys row-prices column-prices star owner cheapest r cheapest′ key′
+      → Turned n costs mask budget m r keys row-prices column-prices star owner prime cheapest′ key′
+  turned-3 {r} e wide long (full q er ec) = let a = ap view-next e in rw ec (turned r (full-made h a q) (sym er) refl refl (held-full h a (r .risen) (r .best) (rw long (h .key-long)) q))
+  turned-3 {r} e wide long (part q er ez o w) =
       let a = ap view-next e in
-      turned r (part-made h a q) (sym er) refl refl (rw ez (held-part h a (r .best) (rw long (h .key-long)) q o))
+      turned r (part-made h a q) (sym er) refl refl (rw ez (held-part h a (r .best) (rw wide (h .cheapest-long)) (rw long (h .key-long)) q o w))
 
   pub turned-4 : {r : State} {prime′ : List ℕ} {key′ : List ℤ} → s .run .next ≡ Step4 → length key′ ≡ length key
-      → Primed n s keys row-prices column-prices star prime key r prime′ key′ → Turned n costs mask budget m r keys row-prices column-prices star owner prime′ key′
+      → Primed n s keys row-prices column-prices star prime key r prime′ key′ → Turned n costs mask budget m r keys row-prices column-prices star owner prime′ cheapest key′
   turned-4 {r} e long (passes z g ep ek) =
       let a = ap view-next e in
       let d = searching-at h S.Step4 a in
@@ -67,13 +68,13 @@ module _ (n : ℕ) (costs : List ℤ) (mask : List ℕ) (budget : ℕ) (s : Stat
 
   pub turned-5 : {r : State} {star′ owner′ prime′ : List ℕ} (i j : ℕ) → s .run .next ≡ Step5 i j → view (r .run) ≡ S.augmenting (view (s .run))
       → (star′, owner′) ≡ flipped n prime n star owner i j → prime′ ≡ table (λ k. n) (length prime)
-      → Turned n costs mask budget m r keys row-prices column-prices star′ owner′ prime′ key
+      → Turned n costs mask budget m r keys row-prices column-prices star′ owner′ prime′ cheapest key
   turned-5 {r} i j e er x y =
       let a = ap view-next e in
       turned r (flips-made h i j a) (sym er) refl refl (held-flips h i j a (r .risen) (r .best) x y)
 
   pub turned-6 : {r : State} {row-prices′ column-prices′ : List ℤ} → s .run .next ≡ Step6 → Adjusted budget s row-prices column-prices r row-prices′ column-prices′
-      → Turned n costs mask budget m r keys row-prices′ column-prices′ star owner prime key
+      → Turned n costs mask budget m r keys row-prices′ column-prices′ star owner prime cheapest key
   turned-6 {r} e (blocked f g ep ec) =
       let a = ap view-next e in
       let d = searching-at h S.Step6 a in
@@ -88,5 +89,5 @@ module _ (n : ℕ) (costs : List ℤ) (mask : List ℕ) (budget : ℕ) (s : Stat
       turned r (adjusts-made h a d near q) (sym er) (sym ep) (sym ec) (rw (e1, e2) (held-adjusts h a d near q))
 
   -- at an end nothing moves
-  pub turned-end : over (view-next (s .run .next)) ≡ true → Turned n costs mask budget m s keys row-prices column-prices star owner prime key
+  pub turned-end : over (view-next (s .run .next)) ≡ true → Turned n costs mask budget m s keys row-prices column-prices star owner prime cheapest key
   turned-end o = record { made = arm-end n (allows n mask) budget m o; held = h }

@@ -1,10 +1,10 @@
 -- What the functions ask of what they are handed.
 use mathlib.Core.Path.{_≡_}
 use mathlib.Core.Logic.{_≢_}
-use mathlib.Core.Bool.{true}
+use mathlib.Core.Bool.{true, false}
 use mathlib.Core.List.{List}
 use Prim.Native.Nat.{ℕ, _+_, _*_, _^_, _≤_, _<_}
-use lib.Dec.{T}
+use lib.Dec.{T, ltb}
 use lib.IntN.{ℤ, pos}
 use lib.Signed.{ltZ, _≤ℤ_}
 use lib.ListN.{length, getD}
@@ -13,13 +13,15 @@ use mir.Val.{SFits}
 use Rattle.lines.specs.First.{any}
 use Rattle.lines.specs.Square.{table}
 use Rattle.lines.specs.Bounds.{Within}
+use Rattle.lines.specs.Count.{count}
+use Rattle.lines.specs.Sets.{has, rest}
 use Rattle.steps.specs.Lent.{allows, cost-at}
 use Rattle.steps.specs.Steps.{row-price, start}
 use Rattle.ground.specs.Square.{Square, InWord}
 use Rattle.ground.specs.Prices.{AdjustsPrices}
 use Rattle.ground.specs.Good.{ForStart, Frame, Kept}
 use Rattle.quick.specs.Keys.{limit, row-of, column-of}
-use Rattle.quick.specs.Ways.{Follows, change}
+use Rattle.quick.specs.Ways.{Follows, change, starred, NoneCheaper, Known}
 use Rattle.quick.specs.Shown.{Holds}
 use Rattle.quick.specs.declared.step.State.{State}
 
@@ -118,7 +120,7 @@ pub record WritesWorking (n : ℕ) (costs : List ℤ) (mask : List ℕ) (row-pri
 
 -- ---- the steps
 
-pub record Starts (n : ℕ) (costs : List ℤ) (mask : List ℕ) (keys row-prices column-prices : List ℤ) (star owner prime : List ℕ) : Type 0 where
+pub record Starts (n : ℕ) (costs : List ℤ) (mask : List ℕ) (keys row-prices column-prices : List ℤ) (star owner prime cheapest : List ℕ) : Type 0 where
   pub fills : Fills n costs mask keys
   pub rows : (i : ℕ) → i < n → T (any (allows n mask i) n)
   pub row-lines : length row-prices ≡ n
@@ -126,6 +128,7 @@ pub record Starts (n : ℕ) (costs : List ℤ) (mask : List ℕ) (keys row-price
   pub star-long : n ≤ length star
   pub owner-long : n ≤ length owner
   pub prime-long : n ≤ length prime
+  pub cheapest-long : n ≤ length cheapest
 
 -- what the arithmetic of steps 3 and 4 asks: sizes, and numbers far from the limits of 64 bits
 pub record Safe (n : ℕ) (risen : ℤ) (keys row-prices column-prices : List ℤ) : Type 0 where
@@ -138,11 +141,38 @@ pub record Safe (n : ℕ) (risen : ℤ) (keys row-prices column-prices : List �
   pub risen-within : Within 1099511627776 risen
   pub entry-within : (q : ℕ) → q < n * n → Within 4611686018427387904 (getD keys q (pos 0))
 
-pub record ForStep3 (n : ℕ) (keys row-prices column-prices : List ℤ) (star owner : List ℕ) (key : List ℤ) : Type 0 where
+-- a cell whose key is asked, and a row whose cheapest open column is
+pub record KeyAt (n : ℕ) (keys row-prices column-prices : List ℤ) (row column : ℕ) : Type 0 where
+  pub safe : Safe n (pos 0) keys row-prices column-prices
+  pub row-below : row < n
+  pub column-below : column < n
+
+pub record Searches (n columns : ℕ) (keys row-prices column-prices : List ℤ) (row : ℕ) : Type 0 where
+  pub safe : Safe n (pos 0) keys row-prices column-prices
+  pub below : row < n
+  pub some : rest n columns ≢ 0
+
+pub record Chooses (n columns : ℕ) (keys row-prices column-prices : List ℤ) (row column : ℕ) : Type 0 where
+  pub searches : Searches n columns keys row-prices column-prices row
+  pub known : column < n → has columns column ≡ false → NoneCheaper n columns keys row-prices column-prices row column
+
+-- all rows
+pub record OpensColumns (n columns : ℕ) (keys row-prices column-prices : List ℤ) (cheapest : List ℕ) (key : List ℤ) : Type 0 where
+  pub safe : Safe n (pos 0) keys row-prices column-prices
+  pub some : rest n columns ≢ 0
+  pub cheapest-long : n ≤ length cheapest
+  pub key-long : n ≤ length key
+  pub known : Known n columns keys row-prices column-prices cheapest
+
+pub record ForStep3 (n : ℕ) (keys row-prices column-prices : List ℤ) (star owner cheapest : List ℕ) (key : List ℤ) : Type 0 where
   pub safe : Safe n (pos 0) keys row-prices column-prices
   pub star-long : n ≤ length star
   pub owner-long : n ≤ length owner
+  pub cheapest-long : n ≤ length cheapest
   pub key-long : n ≤ length key
+  -- with a star missing, a column is free
+  pub some : count (λ i. ltb (getD star i 0) n) n ≢ n → rest n (starred n owner) ≢ 0
+  pub known : Known n (starred n owner) keys row-prices column-prices cheapest
 
 pub record ForStep4 (n : ℕ) (s : State) (keys row-prices column-prices : List ℤ) (star prime : List ℕ) (key : List ℤ) : Type 0 where
   pub safe : Safe n (s .risen) keys row-prices column-prices
@@ -166,7 +196,7 @@ pub record ForStep6 (n budget : ℕ) (s : State) (row-prices column-prices : Lis
 
 -- ---- the whole run, from the start of a call
 
-pub record Simulates (n : ℕ) (costs : List ℤ) (mask : List ℕ) (budget : ℕ) (working : List ℤ) (marks : List ℕ) (row-prices column-prices : List ℤ) (star owner prime : List ℕ) (key : List ℤ) : Type 0 where
+pub record Simulates (n : ℕ) (costs : List ℤ) (mask : List ℕ) (budget : ℕ) (working : List ℤ) (marks : List ℕ) (row-prices column-prices : List ℤ) (star owner prime cheapest : List ℕ) (key : List ℤ) : Type 0 where
   pub asks : ForStart n costs mask working marks row-prices column-prices
   pub frame : Frame n mask (cost-at n costs)
   pub holds : Holds frame
@@ -174,4 +204,5 @@ pub record Simulates (n : ℕ) (costs : List ℤ) (mask : List ℕ) (budget : �
   pub star-long : n ≤ length star
   pub owner-long : n ≤ length owner
   pub prime-long : n ≤ length prime
+  pub cheapest-long : n ≤ length cheapest
   pub key-long : n ≤ length key

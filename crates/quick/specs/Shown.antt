@@ -14,6 +14,7 @@ use Rattle.ground.specs.View.{view}
 use Rattle.ground.specs.Good.{Frame, Kept, Came}
 use Rattle.quick.specs.Keys.{limit, entry}
 use Rattle.quick.specs.Best.{Keys, Best}
+use Rattle.quick.specs.Ways.{starred, Known}
 use Rattle.steps.specs.Steps as S
 use Rattle.steps.specs.Outcome.{no-run}
 use Rattle.steps.specs.Bounds as Bounds
@@ -41,7 +42,7 @@ pub record Lines (n : ℕ) (marks star owner prime : List ℕ) : Type 0 where
   pub prime-is : (i : ℕ) → i < n → getD prime i 0 ≡ prime-in-row n marks i
 
 -- what a run begins with, after steps 1 and 2
-pub record Started (n : ℕ) (costs : List ℤ) (mask : List ℕ) (s : State) (keys row-prices column-prices : List ℤ) (star owner prime : List ℕ) : Type 0 where
+pub record Started (n : ℕ) (costs : List ℤ) (mask : List ℕ) (s : State) (keys row-prices column-prices : List ℤ) (star owner prime cheapest : List ℕ) : Type 0 where
   pub begun : view (s .run) ≡ no-run
   pub table : keys ≡ square (entry 64 (allows n mask) (cost-at n costs)) n
   pub row-prices-are : row-prices ≡ table-of (S.row-price n (allows n mask) (cost-at n costs)) n
@@ -52,6 +53,8 @@ pub record Started (n : ℕ) (costs : List ℤ) (mask : List ℕ) (s : State) (k
   pub star-is : (i : ℕ) → i < n → getD star i 0 ≡ star-in-row n (first-marks n costs mask) i
   pub owner-is : (j : ℕ) → j < n → getD owner j 0 ≡ star-in-column n (first-marks n costs mask) j
   pub no-prime : (i : ℕ) → i < n → getD prime i 0 ≡ n
+  pub cheapest-long : n ≤ length cheapest
+  pub none-known : (i : ℕ) → i < n → getD cheapest i 0 ≡ n
 
 -- how far prices and working values may be from 0, that keys hold them
 abbrev pub most-value : ℕ
@@ -83,13 +86,15 @@ abbrev pub Holds : {n : ℕ} {mask : List ℕ} {cost : ℕ → ℕ → ℤ} → 
 Holds {n} f = Bounds.limit n most-cost (f .row-bound) (f .column-bound) ≤ most-value
 
 -- the machine m is what the code's state shows
-pub record Held (n : ℕ) (costs : List ℤ) (mask : List ℕ) (budget : ℕ) (m : Machine) (risen best : ℤ) (keys : List ℤ) (star owner prime : List ℕ) (key : List ℤ) : Type 0 where
+pub record Held (n : ℕ) (costs : List ℤ) (mask : List ℕ) (budget : ℕ) (m : Machine) (risen best : ℤ) (keys : List ℤ) (star owner prime cheapest : List ℕ) (key : List ℤ) : Type 0 where
   pub frame : Frame n mask (cost-at n costs)
   pub holds : Holds frame
   pub kept : Kept frame budget m
   pub table : keys ≡ square (entry 64 (allows n mask) (cost-at n costs)) n
   pub lines : Lines n (m .marks) star owner prime
   pub key-long : n ≤ length key
+  pub cheapest-long : n ≤ length cheapest
+  pub known : Known n (starred n owner) keys (m .row-prices) (m .column-prices) cheapest
   pub searching : Searching (m .run .next) n (allows n mask) m risen best key
 
 -- the state itself as a machine
@@ -98,11 +103,11 @@ shown n costs mask run row-prices column-prices star prime =
     machine run (working-of n costs mask row-prices column-prices) (marks-of n star prime) row-prices column-prices
 
 -- after one step of the code from the machine m: its state shows the machine's next, and holds it
-pub record Turned (n : ℕ) (costs : List ℤ) (mask : List ℕ) (budget : ℕ) (m : Machine) (s : State) (keys row-prices column-prices : List ℤ) (star owner prime : List ℕ) (key : List ℤ) : Type 0 where
+pub record Turned (n : ℕ) (costs : List ℤ) (mask : List ℕ) (budget : ℕ) (m : Machine) (s : State) (keys row-prices column-prices : List ℤ) (star owner prime cheapest : List ℕ) (key : List ℤ) : Type 0 where
   pub made : shown n costs mask (view (s .run)) row-prices column-prices star prime ≡ S.step n (allows n mask) budget m
-  pub held : Held n costs mask budget (shown n costs mask (view (s .run)) row-prices column-prices star prime) (s .risen) (s .best) keys star owner prime key
+  pub held : Held n costs mask budget (shown n costs mask (view (s .run)) row-prices column-prices star prime) (s .risen) (s .best) keys star owner prime cheapest key
 
 -- some number of steps leads from the machine m to the one that the state shows and holds, which is at an end
-pub record Reached (n : ℕ) (costs : List ℤ) (mask : List ℕ) (budget : ℕ) (m : Machine) (s : State) (keys row-prices column-prices : List ℤ) (star owner prime : List ℕ) (key : List ℤ) : Type 0 where
+pub record Reached (n : ℕ) (costs : List ℤ) (mask : List ℕ) (budget : ℕ) (m : Machine) (s : State) (keys row-prices column-prices : List ℤ) (star owner prime cheapest : List ℕ) (key : List ℤ) : Type 0 where
   pub came : Came n mask budget m (shown n costs mask (view (s .run)) row-prices column-prices star prime)
-  pub held : Held n costs mask budget (shown n costs mask (view (s .run)) row-prices column-prices star prime) (s .risen) (s .best) keys star owner prime key
+  pub held : Held n costs mask budget (shown n costs mask (view (s .run)) row-prices column-prices star prime) (s .risen) (s .best) keys star owner prime cheapest key

@@ -10,7 +10,7 @@ use lib.Signed.{ltZ, _≤ℤ_}
 use lib.ListN.{getD, set}
 use Rattle.lines.specs.Square.{cell}
 use Rattle.lines.specs.Count.{count}
-use Rattle.lines.specs.Sets.{with, those}
+use Rattle.lines.specs.Sets.{has, with, those}
 use Rattle.steps.specs.Steps.{run-with, to, covering, reaching, adjusting, lowered, raised}
 use Rattle.ground.specs.View.{view}
 use Rattle.quick.specs.Keys.{limit, pack, value-of, column-of, row-of, names-zero, less-prices, lesser, lowered-key, least-key}
@@ -21,6 +21,10 @@ use Rattle.quick.specs.declared.step.State.{State}
 -- what a row has in a column that opens at this price
 abbrev pub term-at : ℕ → List ℤ → List ℤ → ℕ → ℤ → ℕ → ℤ
 term-at n keys row-prices column price i = less-prices 64 (getD keys (column * n + i) (pos 0)) (getD row-prices i (pos 0)) price
+
+-- what a row has in a column at the price that the column has
+abbrev pub own-term : ℕ → List ℤ → List ℤ → List ℤ → ℕ → ℕ → ℤ
+own-term n keys row-prices column-prices j i = term-at n keys row-prices j (getD column-prices j (pos 0)) i
 
 -- the state with something else next
 pub record Goes (x : S.Next) (s r : State) : Type 0 where
@@ -34,21 +38,37 @@ pub record Goes (x : S.Next) (s r : State) : Type 0 where
 abbrev pub Opens : ℕ → ℕ → List ℤ → List ℤ → List ℤ → List ℤ → ℤ → Type 0
 Opens n columns keys row-prices column-prices key best =
     (ok : ℕ → ℕ → Bool) (working : List ℤ)
-    → ((i j : ℕ) → i < n → j < n → T (ok i j) → term-at n keys row-prices j (getD column-prices j (pos 0)) i ≡ pack 64 (cell (pos 0) n working i j +ℤ pos 0) j i)
-    → ((i j : ℕ) → i < n → j < n → T (not (ok i j)) → limit ≤ℤ term-at n keys row-prices j (getD column-prices j (pos 0)) i)
+    → ((i j : ℕ) → i < n → j < n → T (ok i j) → own-term n keys row-prices column-prices j i ≡ pack 64 (cell (pos 0) n working i j +ℤ pos 0) j i)
+    → ((i j : ℕ) → i < n → j < n → T (not (ok i j)) → limit ≤ℤ own-term n keys row-prices column-prices j i)
     → Keys 64 n ok limit working 0 columns (pos 0) (λ i. getD key i (pos 0)) × Best 64 n ok limit working 0 columns (pos 0) best
 
-module _ (n : ℕ) (s : State) (keys row-prices column-prices : List ℤ) (star owner : List ℕ) where
-  abbrev pub starred : ℕ
-  starred = those (λ j. ltb (getD owner j 0) n) n
+-- the columns that have a star; all others are free
+abbrev pub starred : ℕ → List ℕ → ℕ
+starred n owner = those (λ j. ltb (getD owner j 0) n) n
 
+-- in row i no column that is open is cheaper than column c
+abbrev pub NoneCheaper : ℕ → ℕ → List ℤ → List ℤ → List ℤ → ℕ → ℕ → Type 0
+NoneCheaper n columns keys row-prices column-prices i c =
+    (j : ℕ) → j < n → has columns j ≡ false → own-term n keys row-prices column-prices c i ≤ℤ own-term n keys row-prices column-prices j i
+
+pub record Cheapest (n columns : ℕ) (keys row-prices column-prices : List ℤ) (i c : ℕ) : Type 0 where
+  pub below : c < n
+  pub is-open : has columns c ≡ false
+  pub none-cheaper : NoneCheaper n columns keys row-prices column-prices i c
+
+-- of each row a column: where it is one, and still open, none is cheaper. All free columns move together, so this stays till the column gets its star
+abbrev pub Known : ℕ → ℕ → List ℤ → List ℤ → List ℤ → List ℕ → Type 0
+Known n columns keys row-prices column-prices cheapest =
+    (i : ℕ) → i < n → getD cheapest i 0 < n → has columns (getD cheapest i 0) ≡ false → NoneCheaper n columns keys row-prices column-prices i (getD cheapest i 0)
+
+module _ (n : ℕ) (s : State) (keys row-prices column-prices : List ℤ) (star owner cheapest : List ℕ) where
   abbrev pub crossed : S.Next → S.Run
-  crossed x = let r = view (s .run) in run-with (r .rows) starred (r .adjustments) (r .primes) (r .augmentations) x
+  crossed x = let r = view (s .run) in run-with (r .rows) (starred n owner) (r .adjustments) (r .primes) (r .augmentations) x
 
-  pub data Crossed (r : State) (key′ : List ℤ) : Type 0 where
-    full : count (λ i. ltb (getD star i 0) n) n ≡ n → view (r .run) ≡ crossed S.Paired → Crossed r key′
+  pub data Crossed (r : State) (cheapest′ : List ℕ) (key′ : List ℤ) : Type 0 where
+    full : count (λ i. ltb (getD star i 0) n) n ≡ n → view (r .run) ≡ crossed S.Paired → cheapest′ ≡ cheapest → Crossed r cheapest′ key′
     part : count (λ i. ltb (getD star i 0) n) n ≢ n → view (r .run) ≡ crossed S.Step4 → r .risen ≡ pos 0
-        → Opens n starred keys row-prices column-prices key′ (r .best) → Crossed r key′
+        → Opens n (starred n owner) keys row-prices column-prices key′ (r .best) → Known n (starred n owner) keys row-prices column-prices cheapest′ → Crossed r cheapest′ key′
 
 -- ---- step 4
 

@@ -116,14 +116,14 @@ pub(crate) fn forget(key: &mut [i64])
     }
 }
 
-fn lesser(x: i64, y: i64) -> i64
+pub(crate) fn lesser(x: i64, y: i64) -> i64
     ensures { λ r. ⌜ r ≡ Keys·lesser x y ⌝ }
 {
     if x < y { x } else { y }
 }
 
 // What is left of an entry with prices taken off.
-fn less_prices(entry: i64, row_price: i64, price: i64) -> i64
+pub(crate) fn less_prices(entry: i64, row_price: i64, price: i64) -> i64
     requires { ⌜ LessPrices entry «row_price» price ⌝ }
     ensures { λ r. ⌜ r ≡ less-prices 64 entry «row_price» price ⌝ }
 {

@@ -14,6 +14,7 @@ use rules::Verdict;
 use steps::Answer;
 
 mod keys;
+mod opening;
 mod stars;
 mod step;
 mod values;
@@ -31,9 +32,10 @@ fn simulate(
     star: &mut [usize],
     owner: &mut [usize],
     prime: &mut [usize],
+    cheapest: &mut [usize],
     key: &mut [i64],
 ) -> Run
-    requires { ⌜ Simulates n (now costs) (now mask) budget (now working) (now marks) (now «row_prices») (now «column_prices») (now star) (now owner) (now prime) (now key) ⌝ }
+    requires { ⌜ Simulates n (now costs) (now mask) budget (now working) (now marks) (now «row_prices») (now «column_prices») (now star) (now owner) (now prime) (now cheapest) (now key) ⌝ }
     ensures { λ r. ⌜ Came n (now (mask .entry)) budget (Steps·start n (allows n (now (mask .entry))) (cost-at n (now (costs .entry))))
         (machine (view r) (now (working .exit)) (now (marks .exit)) (now («row_prices» .exit)) (now («column_prices» .exit))) ⌝ }
 {
@@ -47,6 +49,7 @@ fn simulate(
         star,
         owner,
         prime,
+        cheapest,
     );
     let ended = step::run_steps(
         n,
@@ -60,6 +63,7 @@ fn simulate(
         star,
         owner,
         prime,
+        cheapest,
         key,
     );
     values::write_working(n, costs, mask, row_prices, column_prices, working);
@@ -87,6 +91,7 @@ fn solve(
     let mut star = [0usize; 64];
     let mut owner = [0usize; 64];
     let mut prime = [0usize; 64];
+    let mut cheapest = [0usize; 64];
     let mut key = [0i64; 64];
     let ended = simulate(
         n,
@@ -100,6 +105,7 @@ fn solve(
         &mut star,
         &mut owner,
         &mut prime,
+        &mut cheapest,
         &mut key,
     );
     answer::finish(n, costs, ended, marks, columns)

@@ -1,15 +1,14 @@
 // Document 01's steps on keys and lines, one function for each, and the run from step to step.
 ghost use mathlib.Core.Path.{_≡_};
-ghost use Prim.Native.Nat.{_≤_};
 ghost use lib.ListN.{length};
-ghost use lib.IntN.{pos};
 ghost use Rattle.lines.specs.Square.{table};
 ghost use Rattle.steps.specs.Steps.{augmenting};
 ghost use Rattle.ground.specs.View.{view};
-ghost use Rattle.quick.specs.Asks.{Starts, ForStep3, ForStep4, ForStep5, ForStep6, Safe};
-ghost use Rattle.quick.specs.Ways.{Opens, Crossed, Primed, flipped, Adjusted};
+ghost use Rattle.quick.specs.Asks.{Starts, ForStep3, ForStep4, ForStep5, ForStep6};
+ghost use Rattle.quick.specs.Ways.{Crossed, Primed, flipped, Adjusted};
 ghost use Rattle.quick.specs.Shown.{Started, Held, Turned, Reached, shown};
 use crate::keys;
+use crate::opening;
 use crate::stars;
 use crate::values;
 use ground::prices;
@@ -38,14 +37,16 @@ pub(crate) fn start(
     star: &mut [usize],
     owner: &mut [usize],
     prime: &mut [usize],
+    cheapest: &mut [usize],
 ) -> State
-    requires { ⌜ Starts n (now costs) (now mask) (now keys) (now «row_prices») (now «column_prices») (now star) (now owner) (now prime) ⌝ }
-    ensures { λ r. ⌜ Started n (now (costs .entry)) (now (mask .entry)) r (now (keys .exit)) (now («row_prices» .exit)) (now («column_prices» .exit)) (now (star .exit)) (now (owner .exit)) (now (prime .exit)) ⌝ }
+    requires { ⌜ Starts n (now costs) (now mask) (now keys) (now «row_prices») (now «column_prices») (now star) (now owner) (now prime) (now cheapest) ⌝ }
+    ensures { λ r. ⌜ Started n (now (costs .entry)) (now (mask .entry)) r (now (keys .exit)) (now («row_prices» .exit)) (now («column_prices» .exit)) (now (star .exit)) (now (owner .exit)) (now (prime .exit)) (now (cheapest .exit)) ⌝ }
 {
     values::set_row_prices(n, costs, mask, row_prices);
     prices::clear_prices(column_prices);
     stars::star_rows(n, costs, mask, row_prices, star, owner);
     stars::clear(n, prime);
+    stars::clear(n, cheapest);
     keys::fill(n, costs, mask, keys);
     let begun = run::begun();
     State {
@@ -57,29 +58,6 @@ pub(crate) fn start(
 
 // ---- step 3
 
-// Every column but those of a set opens, at the price that it has. Returns the least key.
-fn open_columns(
-    n: usize,
-    columns: u64,
-    keys: &[i64],
-    row_prices: &[i64],
-    column_prices: &[i64],
-    key: &mut [i64],
-) -> i64
-    requires { ⌜ Safe n (pos 0) (now keys) (now «row_prices») (now «column_prices») × (n ≤ length (now key)) ⌝ }
-    ensures { λ r. ⌜ Opens n columns (now (keys .entry)) (now («row_prices» .entry)) (now («column_prices» .entry)) (now (key .exit)) r ⌝ }
-{
-    keys::forget(key);
-    let mut best = keys::far();
-    let mut left = sets::uncovered_lines(n, columns);
-    while left != 0 {
-        let column = sets::lowest_line(left);
-        best = keys::lower(n, keys, row_prices, column, column_prices[column], 0, key);
-        left = sets::without_lowest(left);
-    }
-    best
-}
-
 // The column of each star is covered; with n stars, finish. The other columns open.
 fn step_3(
     n: usize,
@@ -89,10 +67,11 @@ fn step_3(
     column_prices: &[i64],
     star: &[usize],
     owner: &[usize],
+    cheapest: &mut [usize],
     key: &mut [i64],
 ) -> State
-    requires { ⌜ ForStep3 n (now keys) (now «row_prices») (now «column_prices») (now star) (now owner) (now key) ⌝ }
-    ensures { λ r. ⌜ Crossed n state (now (keys .entry)) (now («row_prices» .entry)) (now («column_prices» .entry)) (now (star .entry)) (now (owner .entry)) r (now (key .exit)) ⌝ }
+    requires { ⌜ ForStep3 n (now keys) (now «row_prices») (now «column_prices») (now star) (now owner) (now cheapest) (now key) ⌝ }
+    ensures { λ r. ⌜ Crossed n state (now (keys .entry)) (now («row_prices» .entry)) (now («column_prices» .entry)) (now (star .entry)) (now (owner .entry)) (now (cheapest .entry)) r (now (cheapest .exit)) (now (key .exit)) ⌝ }
 {
     let run = state.run;
     let columns = stars::starred_columns(n, owner);
@@ -104,7 +83,7 @@ fn step_3(
             best: 0,
         };
     }
-    let best = open_columns(n, columns, keys, row_prices, column_prices, key);
+    let best = opening::open_columns(n, columns, keys, row_prices, column_prices, cheapest, key);
     let crossed = run::crossing(run, columns, Next::Step4);
     State {
         run: crossed,
@@ -249,17 +228,28 @@ fn step(
     star: &mut [usize],
     owner: &mut [usize],
     prime: &mut [usize],
+    cheapest: &mut [usize],
     key: &mut [i64],
 ) -> State
     requires { ⌜ Held n (now costs) (now mask) budget (shown n (now costs) (now mask) (view (state .run)) (now «row_prices») (now «column_prices») (now star) (now prime)) (state .risen) (state .best)
-        (now keys) (now star) (now owner) (now prime) (now key) ⌝ }
+        (now keys) (now star) (now owner) (now prime) (now cheapest) (now key) ⌝ }
     ensures { λ r. ⌜ Turned n (now (costs .entry)) (now (mask .entry)) budget (shown n (now (costs .entry)) (now (mask .entry)) (view (state .run)) (now («row_prices» .entry)) (now («column_prices» .entry)) (now (star .entry)) (now (prime .entry))) r
-        (now (keys .entry)) (now («row_prices» .exit)) (now («column_prices» .exit)) (now (star .exit)) (now (owner .exit)) (now (prime .exit)) (now (key .exit)) ⌝ }
+        (now (keys .entry)) (now («row_prices» .exit)) (now («column_prices» .exit)) (now (star .exit)) (now (owner .exit)) (now (prime .exit)) (now (cheapest .exit)) (now (key .exit)) ⌝ }
 {
     let run = state.run;
     let next = run.next;
     match next {
-        Next::Step3 => step_3(n, state, keys, row_prices, column_prices, star, owner, key),
+        Next::Step3 => step_3(
+            n,
+            state,
+            keys,
+            row_prices,
+            column_prices,
+            star,
+            owner,
+            cheapest,
+            key,
+        ),
         Next::Step4 => step_4(n, state, keys, row_prices, column_prices, star, prime, key),
         Next::Step5(row, column) => step_5(n, state, row, column, star, owner, prime),
         Next::Step6 => step_6(n, budget, state, row_prices, column_prices),
@@ -282,12 +272,13 @@ pub(crate) fn run_steps(
     star: &mut [usize],
     owner: &mut [usize],
     prime: &mut [usize],
+    cheapest: &mut [usize],
     key: &mut [i64],
 ) -> State
     requires { ⌜ Held n (now costs) (now mask) budget (shown n (now costs) (now mask) (view (begun .run)) (now «row_prices») (now «column_prices») (now star) (now prime)) (begun .risen) (begun .best)
-        (now keys) (now star) (now owner) (now prime) (now key) ⌝ }
+        (now keys) (now star) (now owner) (now prime) (now cheapest) (now key) ⌝ }
     ensures { λ r. ⌜ Reached n (now (costs .entry)) (now (mask .entry)) budget (shown n (now (costs .entry)) (now (mask .entry)) (view (begun .run)) (now («row_prices» .entry)) (now («column_prices» .entry)) (now (star .entry)) (now (prime .entry))) r
-        (now (keys .entry)) (now («row_prices» .exit)) (now («column_prices» .exit)) (now (star .exit)) (now (owner .exit)) (now (prime .exit)) (now (key .exit)) ⌝ }
+        (now (keys .entry)) (now («row_prices» .exit)) (now («column_prices» .exit)) (now (star .exit)) (now (owner .exit)) (now (prime .exit)) (now (cheapest .exit)) (now (key .exit)) ⌝ }
 {
     let mut state = begun;
     loop {
@@ -308,6 +299,7 @@ pub(crate) fn run_steps(
             star,
             owner,
             prime,
+            cheapest,
             key,
         );
     }

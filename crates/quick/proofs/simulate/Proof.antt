@@ -8,13 +8,16 @@ use Rattle.quick.proofs.simulate.Tie as tie
 -- ---- places: what was called before, back to the start, and what it left as long as it was
 
 abbrev stars-2 : tie.After-write-working-arg3 → tie.After-star2
-stars-2 c = c .before .before .before .before .before .before .before .before .before
+stars-2 c = c .before .before .before .before .before .before .before .before .before .before .before
 
 abbrev ended : tie.After-star2 → tie.After-run-steps
 ended c = c .before .before .before
 
-abbrev primes-1 : tie.After-run-steps-arg7 → tie.After-prime
-primes-1 c = c .before .before .before .before .before .before .before .before
+abbrev cheapest-1 : tie.After-run-steps-arg8 → tie.After-cheapest
+cheapest-1 c = c .before .before .before .before .before .before .before .before .before
+
+abbrev primes-1 : tie.After-run-steps-arg8 → tie.After-prime
+primes-1 c = cheapest-1 c .before .before
 
 abbrev stars-1 : tie.After-prime → tie.After-star
 stars-1 c = c .before .before .before .before
@@ -22,8 +25,11 @@ stars-1 c = c .before .before .before .before
 abbrev begun : tie.After-star → tie.After-start
 begun c = c .before .before .before .before
 
+abbrev before-start : tie.After-start-arg7 → tie.Start
+before-start c = c .before .before .before .before .before .before .before .before .before .before .before .before .before
+
 abbrev start : tie.After-start → tie.Start
-start c = c .before .before .before .before .before .before .before .before .before .before .before .before
+start c = before-start (c .before)
 
 abbrev stars-0 : tie.After-run-steps → tie.After-star
 stars-0 c = stars-1 (primes-1 (c .before))
@@ -34,6 +40,12 @@ written c = c .before .before .before .before .before
 abbrev last : tie.After-result → tie.After-write-marks
 last c = c .before .before .before
 
+abbrev cheapest-2 : tie.After-write-working → tie.After-cheapest2
+cheapest-2 c = c .before .before .before .before .before .before
+
+abbrev prime-2 : tie.After-write-working → tie.After-prime2
+prime-2 c = cheapest-2 c .before .before
+
 -- the stars' place, from the end
 abbrev stars-3 : tie.After-result → tie.After-star2
 stars-3 c = stars-2 (written (last c) .before)
@@ -41,7 +53,20 @@ stars-3 c = stars-2 (written (last c) .before)
 -- ---- what each call asks
 
 start-requires : tie.Need-start-requires
-start-requires c κs = search needs
+start-requires c κs =
+    let p = before-start c .pre in
+    let asks = p .asks in
+    let grid = asks .grid in
+    record {
+      fills = record { most = grid .word .most; costs-square = asks .costs-square; mask-square = grid .mask-square; keys-square = grid .working-square };
+      rows = asks .rows;
+      row-lines = asks .row-lines;
+      column-lines = asks .column-lines;
+      star-long = p .star-long;
+      owner-long = p .owner-long;
+      prime-long = p .prime-long;
+      cheapest-long = p .cheapest-long;
+    }
 
 run-steps-requires : tie.Need-run-steps-requires
 run-steps-requires c κs =
@@ -87,16 +112,19 @@ same-length-5 c =
 
 same-length-6 : tie.Need-same-length-6
 same-length-6 c =
-    let owner = written (last c) .before .before .before .before .before .before .before .before in
+    let owner = prime-2 (written (last c)) .before .before in
     owner .owner2 .given ∙ primes-1 (ended (stars-3 c) .before) .before .before .owner .given
 
 same-length-7 : tie.Need-same-length-7
 same-length-7 c =
-    let prime = written (last c) .before .before .before .before .before .before in
+    let prime = prime-2 (written (last c)) in
     prime .prime2 .given ∙ primes-1 (ended (stars-3 c) .before) .prime .given
 
 same-length-8 : tie.Need-same-length-8
-same-length-8 c = search needs
+same-length-8 c = cheapest-2 (written (last c)) .cheapest2 .given ∙ cheapest-1 (ended (stars-3 c) .before) .cheapest .given
+
+same-length-9 : tie.Need-same-length-9
+same-length-9 c = search needs
 
 returns : tie.Need-returns
 returns c =
@@ -124,4 +152,5 @@ simulate-spec =
     same-length-6
     same-length-7
     same-length-8
+    same-length-9
     returns)

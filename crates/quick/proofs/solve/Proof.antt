@@ -9,10 +9,10 @@ use Rattle.quick.proofs.solve.Tie as tie
 -- ---- places: what was called before, back to the start
 
 abbrev start : tie.After-key → tie.Start
-start c = c .before .before .before .before .before .before .before .before .before .before .before
+start c = c .before .before .before .before .before .before .before .before .before .before .before .before
 
 abbrev ended : tie.After-finish-arg2 → tie.After-simulate
-ended c = c .before .before .before .before .before .before .before .before .before .before .before
+ended c = c .before .before .before .before .before .before .before .before .before .before .before .before
 
 -- ---- what each call asks
 
@@ -28,6 +28,9 @@ slice-aggregate-simulate-3 c = search needs
 slice-aggregate-simulate-4 : tie.Need-slice-aggregate-simulate-4
 slice-aggregate-simulate-4 c = search needs
 
+slice-aggregate-simulate-5 : tie.Need-slice-aggregate-simulate-5
+slice-aggregate-simulate-5 c = search needs
+
 simulate-requires : tie.Need-simulate-requires
 simulate-requires c κs =
     let v = start c .pre in
@@ -40,6 +43,7 @@ simulate-requires c κs =
       star-long = search needs;
       owner-long = search needs;
       prime-long = search needs;
+      cheapest-long = search needs;
       key-long = search needs;
     }
 
@@ -75,6 +79,7 @@ solve-spec =
     slice-aggregate-simulate-2
     slice-aggregate-simulate-3
     slice-aggregate-simulate-4
+    slice-aggregate-simulate-5
     simulate-requires
     finish-requires
     same-length

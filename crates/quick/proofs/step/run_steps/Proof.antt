@@ -10,21 +10,21 @@ use Rattle.quick.proofs.step.run_steps.Statement.{statement}
 use Rattle.quick.proofs.step.run_steps.Tie as tie
 
 abbrev Inv-loop : tie.InvT-loop
-Inv-loop n costs mask budget keys row-prices₀ column-prices₀ star₀ owner₀ prime₀ key₀ state₀ row-prices column-prices star owner prime key state =
-    Comes n costs mask budget (shown n costs mask (view (state₀ .run)) row-prices₀ column-prices₀ star₀ prime₀) state keys row-prices column-prices star owner prime key
-    × SameLong row-prices₀ column-prices₀ star₀ owner₀ prime₀ key₀ row-prices column-prices star owner prime key
+Inv-loop n costs mask budget keys row-prices₀ column-prices₀ star₀ owner₀ prime₀ cheapest₀ key₀ state₀ row-prices column-prices star owner prime cheapest key state =
+    Comes n costs mask budget (shown n costs mask (view (state₀ .run)) row-prices₀ column-prices₀ star₀ prime₀) state keys row-prices column-prices star owner prime cheapest key
+    × SameLong row-prices₀ column-prices₀ star₀ owner₀ prime₀ cheapest₀ key₀ row-prices column-prices star owner prime cheapest key
 
 abbrev μ-loop : tie.MeasureT-loop
-μ-loop n costs mask budget keys row-prices₀ column-prices₀ star₀ owner₀ prime₀ key₀ state₀ row-prices column-prices star owner prime key state =
+μ-loop n costs mask budget keys row-prices₀ column-prices₀ star₀ owner₀ prime₀ cheapest₀ key₀ state₀ row-prices column-prices star owner prime cheapest key state =
     left n (allows n mask) (shown n costs mask (view (state .run)) row-prices column-prices star prime)
 
 -- ---- places: the call of a step, and the loop that it is in
 
 abbrev stepped : tie.After-key Inv-loop μ-loop → tie.After-step Inv-loop μ-loop
-stepped c = c .before .before .before .before .before .before .before .before .before
+stepped c = c .before .before .before .before .before .before .before .before .before .before .before
 
-abbrev going : tie.After-step-arg6 Inv-loop μ-loop → tie.Else1 Inv-loop μ-loop
-going c = c .before .before .before .before .before .before
+abbrev going : tie.After-step-arg7 Inv-loop μ-loop → tie.Else1 Inv-loop μ-loop
+going c = c .before .before .before .before .before .before .before
 
 abbrev at-loop : tie.Else1 Inv-loop μ-loop → tie.At-loop Inv-loop μ-loop
 at-loop c = c .before .before .before
@@ -33,8 +33,8 @@ at-loop c = c .before .before .before
 
 loop-holds : tie.Need-loop-holds Inv-loop μ-loop
 loop-holds c =
-    let s = c .before .before .before .before in
-    (record { coming = coming-here (good (s .pre)); held = s .pre }, record { rows = refl; columns = refl; stars = refl; owners = refl; primes = refl; keys = refl })
+    let s = c .before .before .before .before .before in
+    (record { coming = coming-here (good (s .pre)); held = s .pre }, record { rows = refl; columns = refl; stars = refl; owners = refl; primes = refl; cheapests = refl; keys = refl })
 
 is-over-requires : tie.Need-is-over-requires Inv-loop μ-loop
 is-over-requires c κs = tt
@@ -55,7 +55,10 @@ same-length-5 : tie.Need-same-length-5 Inv-loop μ-loop
 same-length-5 c = c .before .before .before .loop .inv .1 .primes
 
 same-length-6 : tie.Need-same-length-6 Inv-loop μ-loop
-same-length-6 c = c .before .before .before .loop .inv .1 .keys
+same-length-6 c = c .before .before .before .loop .inv .1 .cheapests
+
+same-length-7 : tie.Need-same-length-7 Inv-loop μ-loop
+same-length-7 c = c .before .before .before .loop .inv .1 .keys
 
 returns : tie.Need-returns Inv-loop μ-loop
 returns c =
@@ -75,8 +78,9 @@ loop-less c =
 loop-again : tie.Need-loop-again Inv-loop μ-loop
 loop-again c =
     let step = stepped c in
-    let columns = c .before .before .before .before .before .before .before in
-    let owner = c .before .before .before .before in
+    let columns = c .before .before .before .before .before .before .before .before .before in
+    let owner = c .before .before .before .before .before .before in
+    let prime = c .before .before .before .before in
     let x = at-loop (going (step .before)) .loop .inv in
     let long = x .1 in (
       record { coming = coming-next (step .step .ensures .made) (x .0 .coming); held = step .step .ensures .held },
@@ -85,7 +89,8 @@ loop-again c =
         columns = columns .column-prices .given ∙ long .columns;
         stars = owner .before .before .star .given ∙ long .stars;
         owners = owner .owner .given ∙ long .owners;
-        primes = c .before .before .prime .given ∙ long .primes;
+        primes = prime .prime .given ∙ long .primes;
+        cheapests = c .before .before .cheapest .given ∙ long .cheapests;
         keys = c .key .given ∙ long .keys;
       },
     )
@@ -104,6 +109,7 @@ run-steps-spec =
     same-length-4
     same-length-5
     same-length-6
+    same-length-7
     returns
     step-requires
     loop-less

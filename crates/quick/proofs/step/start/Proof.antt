@@ -10,7 +10,10 @@ use Rattle.quick.proofs.step.start.Tie as tie
 
 -- ---- places: what was called before, back to the start
 
-abbrev cleared : tie.After-fill → tie.After-clear
+abbrev forgotten : tie.After-fill → tie.After-clear2
+forgotten c = c .before .before .before .before
+
+abbrev cleared : tie.After-clear2 → tie.After-clear
 cleared c = c .before .before .before .before
 
 abbrev starred : tie.After-clear → tie.After-star-rows
@@ -23,7 +26,7 @@ abbrev priced : tie.After-clear-prices → tie.After-set-row-prices
 priced c = c .before .before .before
 
 abbrev start : tie.After-set-row-prices → tie.Start
-start c = c .before .before .before .before .before .before
+start c = c .before .before .before .before .before .before .before
 
 -- ---- what each call asks
 
@@ -38,6 +41,9 @@ star-rows-requires c κs = search needs
 
 clear-requires : tie.Need-clear-requires
 clear-requires c κs = search needs
+
+clear-requires-2 : tie.Need-clear-requires-2
+clear-requires-2 c κs = search needs
 
 fill-requires : tie.Need-fill-requires
 fill-requires c κs = search needs
@@ -63,10 +69,14 @@ same-length-5 c = search needs
 same-length-6 : tie.Need-same-length-6
 same-length-6 c = search needs
 
+same-length-7 : tie.Need-same-length-7
+same-length-7 c = search needs
+
 returns : tie.Need-returns
 returns c =
     let filled = c .before .before in
-    let prime = cleared filled in
+    let cheapest = forgotten filled in
+    let prime = cleared cheapest in
     let owner = prime .before .before .before in
     let stars = starred prime in
     let columns = emptied stars in
@@ -79,10 +89,12 @@ returns c =
       column-prices-are = columns .clear-prices .ensures ∙ ap (table (λ j. pos 0)) (pre .column-lines);
       star-long = omega (arith, owner .before .before .star .given, pre .star-long);
       owner-long = omega (arith, owner .owner .given, pre .owner-long);
-      prime-long = omega (arith, filled .before .before .before .prime .given, pre .prime-long);
+      prime-long = omega (arith, cheapest .before .before .before .prime .given, pre .prime-long);
       star-is = stars .star-rows .ensures .0;
       owner-is = stars .star-rows .ensures .1;
       no-prime = λ i hi. rw (prime .clear .ensures) (table-at 0 _ _ i (omega (arith, pre .prime-long)));
+      cheapest-long = omega (arith, filled .before .before .before .cheapest .given, pre .cheapest-long);
+      none-known = λ i hi. rw (cheapest .clear2 .ensures) (table-at 0 _ _ i (omega (arith, pre .cheapest-long)));
     }
 
 pub start-spec : {M : Type 1} → statement M
@@ -93,6 +105,7 @@ start-spec =
     clear-prices-requires
     star-rows-requires
     clear-requires
+    clear-requires-2
     fill-requires
     begun-requires
     same-length
@@ -101,4 +114,5 @@ start-spec =
     same-length-4
     same-length-5
     same-length-6
+    same-length-7
     returns)
