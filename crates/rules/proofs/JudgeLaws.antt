@@ -4,6 +4,7 @@ use mathlib.Core.Logic.{_≢_}
 use mathlib.Core.Bool.{Bool, true, false, not, _&&_}
 use mathlib.Core.List.{List, [], _∷_}
 use Prim.Native.Nat.{ℕ, _*_, _≤_, _<_}
+use native.Mathlib.Omega.{arith}
 use borrow.Author.Tests.{le-ltb, lt-ltb, eq-eqb, ne-eqb, eqb-true, eqb-false, ltb-true, ltb-false}
 use lib.Dec.{T, eqb, eqb→eq, ltb}
 use lib.IntN.{ℤ}
@@ -14,18 +15,21 @@ use Rattle.steps.specs.Rules.{Rule, rule, cell-rule, by-rules}
 use Rattle.steps.specs.Refusal.{Verdict, refused, dead, accepted, bad-mask, bad-cost, dead-row, rules, by-rows, judgement}
 use Rattle.steps.proofs.RuleLaws.{applies, passes}
 
--- a search that found a cell, or looked through all of them
-module _ (bad : ℕ → Bool) {k cells n : ℕ} (e : k ≡ first bad cells) (size : cells ≡ n) where
-  pub found : k < cells → any bad n ≡ true
+-- cells asked one after another, whether one is bad
+module _ (bad : ℕ → Bool) where
+  pub none-asked : false ≡ any bad 0
   unfolding any
-  found h = rw (← size, ← e) (lt-ltb k cells h)
+  none-asked = sym (le-ltb (first bad 0) 0 (omega arith))
 
-  pub missed : cells ≤ k → any bad n ≡ false
-  unfolding any
-  missed h = rw (← size, ← e) (le-ltb k cells h)
+  pub all-asked : {k cells : ℕ} → k ≤ cells → cells ≤ k → any bad k ≡ any bad cells
+  all-asked {k} {cells} l h = let e : k ≡ cells = omega arith in rw e
 
-  pub place : first bad n ≡ k
-  place = rw (← size) (sym e)
+  -- what was asked, and found, of all cells
+  pub asked : {r : Bool} {cells n : ℕ} → r ≡ any bad cells → cells ≡ n → any bad n ≡ r
+  asked e size = rw (← size) (sym e)
+
+  pub place : {k cells n : ℕ} → k ≡ first bad cells → cells ≡ n → first bad n ≡ k
+  place e size = rw (← size) (sym e)
 
 module _ (limit n : ℕ) (costs : List ℤ) (mask : List ℕ) (others : Bool) where
   abbrev pub right-lengths : Bool

@@ -1,10 +1,10 @@
 // The judgement of what is lent: rules 1 to 5 in their order, then the test of the rows; for any largest n, and whatever is lent beside costs and mask.
 ghost use mathlib.Core.Path.{_≡_};
-ghost use mathlib.Core.Bool.{not, _&&_};
+ghost use mathlib.Core.Bool.{not, _&&_, _||_};
 ghost use Prim.Native.Nat.{_*_, _<_, _≤_};
 ghost use lib.Dec.{eqb, ltb};
 ghost use lib.ListN.{length};
-ghost use Rattle.lines.specs.First.{first};
+ghost use Rattle.lines.specs.First.{first, any};
 ghost use Rattle.steps.specs.Refusal.{out-of-range, bad-mask, bad-cost, dead-row, has-room, judgement};
 ghost use Rattle.rules.specs.View.{view-verdict};
 
@@ -76,7 +76,29 @@ fn has_lengths(n: usize, costs: usize, mask: usize, others: bool) -> bool
     others
 }
 
-// ---- mask, costs and rows. A search that finds nothing gives the number of what it looked through.
+// ---- mask, costs and rows. A search that finds nothing gives the number of what it looked through. Whether there is anything to find is asked first, of all
+// cells in a loop with no way out of it: the compiler then looks at many cells at once.
+
+fn either(here: bool, before: bool) -> bool
+    ensures { λ r. ⌜ r ≡ (here || before) ⌝ }
+{
+    if here {
+        return true;
+    }
+    before
+}
+
+fn has_bad_mask(mask: &[u8]) -> bool
+    ensures { λ r. ⌜ r ≡ any (bad-mask (now (mask .entry))) (length (now (mask .entry))) ⌝ }
+{
+    let mut bad = false;
+    let mut place = 0;
+    while place < mask.len() {
+        bad = either(1 < mask[place], bad);
+        place += 1;
+    }
+    bad
+}
 
 // The lowest cell whose mask byte is above 1.
 fn find_bad_mask(mask: &[u8]) -> usize
@@ -98,6 +120,29 @@ fn is_out_of_range(cost: i32) -> bool
     cost < -1_000_000_000 || 1_000_000_000 < cost
 }
 
+// A forbidden cell's cost is not looked at.
+fn is_bad_cost(byte: u8, cost: i32) -> bool
+    ensures { λ r. ⌜ r ≡ (eqb byte 1 && out-of-range cost) ⌝ }
+{
+    if byte == 1 {
+        return is_out_of_range(cost);
+    }
+    false
+}
+
+fn has_bad_cost(costs: &[i32], mask: &[u8]) -> bool
+    requires { ⌜ length (now costs) ≡ length (now mask) ⌝ }
+    ensures { λ r. ⌜ r ≡ any (bad-cost (now (costs .entry)) (now (mask .entry))) (length (now (mask .entry))) ⌝ }
+{
+    let mut bad = false;
+    let mut place = 0;
+    while place < mask.len() {
+        bad = either(is_bad_cost(mask[place], costs[place]), bad);
+        place += 1;
+    }
+    bad
+}
+
 // The lowest allowed cell whose cost is out of range.
 fn find_bad_cost(costs: &[i32], mask: &[u8]) -> usize
     requires { ⌜ length (now costs) ≡ length (now mask) ⌝ }
@@ -105,10 +150,8 @@ fn find_bad_cost(costs: &[i32], mask: &[u8]) -> usize
 {
     let mut place = 0;
     while place < mask.len() {
-        if mask[place] == 1 {
-            if is_out_of_range(costs[place]) {
-                return place;
-            }
+        if is_bad_cost(mask[place], costs[place]) {
+            return place;
         }
         place += 1;
     }
@@ -160,12 +203,12 @@ pub fn judge(limit: u16, n: usize, costs: &[i32], mask: &[u8], others: bool) -> 
     if !has_lengths(n, costs.len(), mask.len(), others) {
         return Verdict::Refused(3, 0);
     }
-    let bad_mask = find_bad_mask(mask);
-    if bad_mask < mask.len() {
+    if has_bad_mask(mask) {
+        let bad_mask = find_bad_mask(mask);
         return Verdict::Refused(4, bad_mask);
     }
-    let bad_cost = find_bad_cost(costs, mask);
-    if bad_cost < mask.len() {
+    if has_bad_cost(costs, mask) {
+        let bad_cost = find_bad_cost(costs, mask);
         return Verdict::Refused(5, bad_cost);
     }
     let dead = find_dead_row(n, mask);

@@ -1,10 +1,10 @@
 -- What a mask byte that the code reads says of its cell. Past the end the code's reading is 0, and the definitions' is 1.
 use mathlib.Core.Path.{_≡_}
-use mathlib.Core.Bool.{true, false, not, and-false}
+use mathlib.Core.Bool.{true, false, not, _&&_}
 use mathlib.Core.List.{List}
 use Prim.Native.Nat.{ℕ, _+_, _*_, _≤_, _<_}
 use borrow.Author.Tests.{eq-eqb, ne-eqb, lt-ltb, le-ltb}
-use lib.Dec.{T, eqb, nltb→le}
+use lib.Dec.{T, eqb, ltb, nltb→le}
 use lib.IntN.{ℤ, pos}
 use lib.ListN.{length, getD}
 use Rattle.lines.proofs.Squares.{getD-inside}
@@ -33,17 +33,14 @@ module _ (mask : List ℕ) (q : ℕ) (h : q < length mask) where
   unfolding bad-mask
   mask-good l = rw byte (le-ltb 1 _ l)
 
-  pub cost-bad : (costs : List ℤ) → getD mask q 0 ≡ 1 → out-of-range (getD costs q (pos 0)) ≡ true → bad-cost costs mask q ≡ true
-  unfolding bad-cost
-  cost-bad costs e b = rw (one e, b)
+  -- what the code asks of a cell
+  pub mask-is : bad-mask mask q ≡ ltb 1 (getD mask q 0)
+  unfolding bad-mask
+  mask-is = rw byte
 
-  pub cost-unread : (costs : List ℤ) → (getD mask q 0 ≡ 1 → ⊥) → bad-cost costs mask q ≡ false
+  pub cost-is : (costs : List ℤ) → bad-cost costs mask q ≡ (eqb (getD mask q 0) 1 && out-of-range (getD costs q (pos 0)))
   unfolding bad-cost
-  cost-unread costs ne = rw (other ne)
-
-pub cost-good : (costs : List ℤ) (mask : List ℕ) (q : ℕ) → out-of-range (getD costs q (pos 0)) ≡ false → bad-cost costs mask q ≡ false
-unfolding bad-cost
-cost-good costs mask q b = rw (b, and-false)
+  cost-is costs = rw byte
 
 module _ (n : ℕ) (mask : List ℕ) (i j : ℕ) (h : i * n + j < length mask) where
   pub allows-is : allows n mask i j ≡ eqb (getD mask (i * n + j) 0) 1

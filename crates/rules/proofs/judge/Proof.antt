@@ -44,37 +44,43 @@ past-3 c = J.past-3 _ _ _ _ _ (past-2 (c .before .before)) (sym (c .before .has-
 
 -- ---- rule 4: the mask
 
+has-bad-mask-requires : tie.Need-has-bad-mask-requires
+has-bad-mask-requires c κs = search needs
+
 find-bad-mask-requires : tie.Need-find-bad-mask-requires
 find-bad-mask-requires c κs = search needs
 
 returns-4 : tie.Need-returns-4
 returns-4 c =
-    let lengths = c .before .before in
-    let search = c .before .find-bad-mask .ensures in
+    let asked = c .before .before in
+    let lengths = asked .before in
     let size = lengths-right lengths .mask-length in
-    sym (J.rule-4 _ _ _ _ _ (past-3 lengths) (J.found _ search size (c .if4 .taken)) (J.place _ search size))
+    sym (J.rule-4 _ _ _ _ _ (past-3 lengths) (J.asked _ (asked .has-bad-mask .ensures) size ∙ c .before .if4 .taken) (J.place _ (c .find-bad-mask .ensures) size))
 
 past-4 : (c : tie.Else4) → Of (c .before .before .before .before .before .before .before) J.From-5
 past-4 c =
     let lengths = c .before .before in
-    J.past-4 _ _ _ _ _ (past-3 lengths) (J.missed _ (c .before .find-bad-mask .ensures) (lengths-right lengths .mask-length) (c .if4 .left))
+    J.past-4 _ _ _ _ _ (past-3 lengths) (J.asked _ (c .before .has-bad-mask .ensures) (lengths-right lengths .mask-length) ∙ c .if4 .left)
 
 -- ---- rule 5: the costs
 
+has-bad-cost-requires : tie.Need-has-bad-cost-requires
+has-bad-cost-requires c κs = let l = lengths-right (c .before .before) in l .costs-length ∙ sym (l .mask-length)
+
 find-bad-cost-requires : tie.Need-find-bad-cost-requires
-find-bad-cost-requires c κs = let l = lengths-right (c .before .before) in l .costs-length ∙ sym (l .mask-length)
+find-bad-cost-requires c κs = let l = lengths-right (c .before .before .before .before) in l .costs-length ∙ sym (l .mask-length)
 
 returns-5 : tie.Need-returns-5
 returns-5 c =
-    let mask = c .before .before in
-    let search = c .before .find-bad-cost .ensures in
+    let asked = c .before .before in
+    let mask = asked .before in
     let size = lengths-right (mask .before .before) .mask-length in
-    sym (J.rule-5 _ _ _ _ _ (past-4 mask) (J.found _ search size (c .if5 .taken)) (J.place _ search size))
+    sym (J.rule-5 _ _ _ _ _ (past-4 mask) (J.asked _ (asked .has-bad-cost .ensures) size ∙ c .before .if5 .taken) (J.place _ (c .find-bad-cost .ensures) size))
 
 past-5 : (c : tie.Else5) → Of (c .before .before .before .before .before .before .before .before .before) J.From-rows
 past-5 c =
     let mask = c .before .before in
-    J.past-5 _ _ _ _ _ (past-4 mask) (J.missed _ (c .before .find-bad-cost .ensures) (lengths-right (mask .before .before) .mask-length) (c .if5 .left))
+    J.past-5 _ _ _ _ _ (past-4 mask) (J.asked _ (c .before .has-bad-cost .ensures) (lengths-right (mask .before .before) .mask-length) ∙ c .if5 .left)
 
 -- ---- the rows
 
@@ -95,8 +101,10 @@ judge-spec =
     returns-2
     has-lengths-requires
     returns-3
+    has-bad-mask-requires
     find-bad-mask-requires
     returns-4
+    has-bad-cost-requires
     find-bad-cost-requires
     returns-5
     find-dead-row-requires
