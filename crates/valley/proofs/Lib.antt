@@ -3,3 +3,4 @@ pub mod Samples
 pub mod Lengths
 pub mod Theorems
 pub mod Closed
+pub mod Told
