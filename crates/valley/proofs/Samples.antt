@@ -1,7 +1,8 @@
 -- What is printed, computed by the definitions from the bytes of a file: document 01's whole example, a file without a pairing, and the empty file.
 use mathlib.Core.Path.{_≡_, refl}
-use mathlib.Core.List.{[], _∷_, _++_}
+use mathlib.Core.List.{List, [], _∷_, _++_}
 use mathlib.Core.Option.{some}
+use Prim.Native.Nat.{ℕ}
 use lib.ListN.{replicate}
 use Rattle.lines.specs.Sum.{sum, sumℤ}
 use Rattle.lines.specs.Count.{bit, count}
@@ -28,8 +29,12 @@ use Rattle.text.specs.Numbers.{decimal-from, decimal, sign, signed, refusal}
 use Rattle.valley.specs.Lines.{row-line, row-lines, total-line, lines}
 use Rattle.valley.specs.Computed.{solved, printed-of, printed}
 
--- from the 40 bytes of the file to `7 0`, `9 1`, `TOTAL 800`
-pub example-printed : printed example ≡ some (55 ∷ 32 ∷ 48 ∷ 10 ∷ 57 ∷ 32 ∷ 49 ∷ 10 ∷ 84 ∷ 79 ∷ 84 ∷ 65 ∷ 76 ∷ 32 ∷ 56 ∷ 48 ∷ 48 ∷ 10 ∷ [])
+-- `7 0`, `9 1`, `TOTAL 800`
+abbrev pub example-text : List ℕ
+example-text = 55 ∷ 32 ∷ 48 ∷ 10 ∷ 57 ∷ 32 ∷ 49 ∷ 10 ∷ 84 ∷ 79 ∷ 84 ∷ 65 ∷ 76 ∷ 32 ∷ 56 ∷ 48 ∷ 48 ∷ 10 ∷ []
+
+-- from the 40 bytes of the file to its text
+pub example-printed : printed example ≡ some example-text
 unfolding judged judge-from judge-record record-of by-kind size line end bad-size found known body-length u16-at u32-at
     pair-cost mask-byte may-pair clock-error row-area row-clock column-area column-clock said said-in hut-of front enough
     sum sumℤ bit count first-on first any least-on least table square each-from each has with without all rest those total allows cost-at

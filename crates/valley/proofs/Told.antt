@@ -1,7 +1,7 @@
 -- Theorem: what the program prints of a well-formed case is the lines of a least pairing of the case's lines, or that there is none.
-use mathlib.Core.Path.{_≡_, refl, sym, ap, ap₂, _∙_}
+use mathlib.Core.Path.{_≡_, sym, ap, ap₂, _∙_}
 use mathlib.Core.List.{List, _++_}
-use Prim.Native.Nat.{ℕ, zero, suc, _≤_, _<_}
+use Prim.Native.Nat.{ℕ, _≤_, _<_}
 use native.Mathlib.Omega.{arith}
 use lib.IntN.{pos}
 use lib.ListN.{length, getD, take, replicate, length-replicate}
@@ -16,20 +16,11 @@ use Rattle.storm_case.proofs.SaidLaws.{said-at}
 use Rattle.pairing.specs.Told.{summed, AboutLines}
 use Rattle.pairing.proofs.Fronts.{fresh-room}
 use Rattle.pairing.proofs.AboutLines.{about-lines}
-use Rattle.valley.specs.Lines.{row-line, row-lines, total-line, lines}
+use Rattle.valley.specs.Lines.{row-lines, total-line, lines}
 use Rattle.valley.specs.Report.{huts, Reported}
 use Rattle.valley.specs.Told.{huts-of, Tells, paired, unpaired}
-use Rattle.valley.proofs.LineLaws.{lines-paired, lines-none}
+use Rattle.valley.proofs.LineLaws.{same-rows, lines-paired, lines-none}
 use Rattle.valley.proofs.Theorems.{whole-text}
-
--- rows with the same hut and the same column have the same lines
-same-rows : (h h′ c c′ : List ℕ) (n : ℕ) → ((i : ℕ) → i < n → getD h i 0 ≡ getD h′ i 0) → ((i : ℕ) → i < n → getD c i 0 ≡ getD c′ i 0)
-    → row-lines h c n ≡ row-lines h′ c′ n
-unfolding row-lines
-same-rows h h′ c c′ zero sh sc = refl
-same-rows h h′ c c′ (suc n) sh sc =
-    ap₂ (λ (a b : List ℕ). a ++ b) (same-rows h h′ c c′ n (λ i l. sh i (omega arith)) (λ i l. sc i (omega arith)))
-    (ap₂ row-line (sh n (omega arith)) (sc n (omega arith)))
 
 module _ {n window : ℕ} {case-lines : List Line} (h : WellFormed n window case-lines) {out : List ℕ} {r : ℕ} {after : List ℕ}
     (x : Reported (encode n window case-lines) out r after) (room : 1024 ≤ length out) where
