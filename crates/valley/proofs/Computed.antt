@@ -14,12 +14,12 @@ use Rattle.storm_case.specs.Scan.{Judged, more, refused, accepted, judged}
 use Rattle.storm_case.proofs.ScanLaws.{never-more}
 use Rattle.storm_case.proofs.Decides.{refused-early}
 use Rattle.pairing.specs.declared.Pairs.{Pairs}
-use Rattle.pairing.specs.Pair.{Loan, fresh, front, unpaired, paired, PairPromise}
+use Rattle.pairing.specs.Pair.{Loan, fresh, front, paired, asked, PairPromise}
 use Rattle.pairing.proofs.Fronts.{fresh-room}
 use Rattle.pairing.proofs.OnlyPairs.{OnlyAnswer}
 use Rattle.valley.specs.Lines.{lines}
 use Rattle.valley.specs.Report.{huts, Reported}
-use Rattle.valley.specs.Computed.{asked, solved, printed-of, printed}
+use Rattle.valley.specs.Computed.{solved, printed-of, printed}
 use Rattle.valley.proofs.LineLaws.{lines-refused, lines-front}
 use Rattle.valley.proofs.Theorems.{whole-text}
 

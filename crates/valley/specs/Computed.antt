@@ -2,20 +2,14 @@
 use mathlib.Core.List.{List, []}
 use mathlib.Core.Option.{Option, none, some, Option·map}
 use Prim.Native.Nat.{ℕ}
-use Rattle.lines.specs.Square.{square}
 use Rattle.steps.specs.declared.Answer.{Answer}
-use Rattle.steps.specs.Lent.{Task, Buffers, task}
+use Rattle.steps.specs.Lent.{Task, Buffers}
 use Rattle.steps.specs.Refusal.{verdict}
 use Rattle.steps.specs.Outcome as solver
-use Rattle.storm_case.specs.Scan.{Scan, Judged, more, refused, accepted, judged}
-use Rattle.storm_case.specs.Case.{pair-cost, mask-byte}
-use Rattle.pairing.specs.Pair.{fresh, front, unpaired, paired, enough}
+use Rattle.storm_case.specs.Scan.{Judged, more, refused, accepted, judged}
+use Rattle.pairing.specs.Pair.{fresh, front, unpaired, paired, asked}
 use Rattle.valley.specs.Lines.{lines}
 use Rattle.valley.specs.Report.{huts}
-
--- what the solver is asked of an accepted file
-abbrev pub asked : List ℕ → Scan → Task
-asked file s = task (s .n) (square (pair-cost file s) (s .n)) (square (mask-byte file s) (s .n)) (enough (s .n))
 
 -- what the definition of the steps gives back; none where 99 steps do not come to an end
 unfoldable pub solved : Task → Buffers → Option (Answer × Buffers)
