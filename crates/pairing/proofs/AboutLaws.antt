@@ -17,22 +17,19 @@ use Rattle.lines.proofs.Tests.{T-true}
 use Rattle.lines.proofs.Squares.{table-at, length-square, square-at}
 use Rattle.lines.proofs.Sumsℤ.{sumℤ-ext}
 use Rattle.assignment.specs.Problem.{column, AllowedPairing, Block, total}
-use Rattle.steps.specs.Lent.{Task, Buffers, allows, cost-at, allowed, cost, task}
+use Rattle.steps.specs.Lent.{Buffers, allows, cost-at, allowed, cost}
 use Rattle.steps.specs.Refusal as R
 use Rattle.steps.specs.Promise.{Fit, Promise}
 use Rattle.pairing.specs.declared.Pairs.{Pairs}
 use Rattle.storm_case.specs.Scan.{Scan}
 use Rattle.storm_case.specs.Case.{row-area, column-area, clock-error, may-pair, pair-cost, mask-byte}
-use Rattle.pairing.specs.Pair.{front, enough, SolvedBy, clock-cost, AboutFile}
+use Rattle.pairing.specs.Pair.{front, enough, asked, SolvedBy, clock-cost, AboutFile}
 use Rattle.storm_case.proofs.ScanLaws.{Filled}
 
 -- ---- the cells of a file
 
 module _ (file : List ℕ) (s : Scan) where
-  abbrev pub of-file : Task
-  of-file = task (s .n) (square (pair-cost file s) (s .n)) (square (mask-byte file s) (s .n)) (enough (s .n))
-
-  allowed-is : (i j : ℕ) → i < s .n → j < s .n → allowed of-file i j ≡ may-pair file s i j
+  allowed-is : (i j : ℕ) → i < s .n → j < s .n → allowed (asked file s) i j ≡ may-pair file s i j
   unfolding allows mask-byte
   allowed-is i j hi hj = ap (λ b. eqb b 1) (square-at 1 (mask-byte file s) (s .n) i j hi hj) ∙ one (may-pair file s i j)
     where
@@ -40,32 +37,32 @@ module _ (file : List ℕ) (s : Scan) where
       one true = refl
       one false = refl
 
-  cost-is : (i j : ℕ) → i < s .n → j < s .n → T (may-pair file s i j) → cost of-file i j ≡ clock-cost file s i j
+  cost-is : (i j : ℕ) → i < s .n → j < s .n → T (may-pair file s i j) → cost (asked file s) i j ≡ clock-cost file s i j
   unfolding cost-at pair-cost
   cost-is i j hi hj ok = square-at (pos 0) (pair-cost file s) (s .n) i j hi hj ∙ rw (T-true (may-pair file s i j) ok)
 
   -- ---- the same pairings
 
-  to-file : {p : List ℕ} → AllowedPairing (s .n) (s .n) (allowed of-file) p → AllowedPairing (s .n) (s .n) (may-pair file s) p
+  to-file : {p : List ℕ} → AllowedPairing (s .n) (s .n) (allowed (asked file s)) p → AllowedPairing (s .n) (s .n) (may-pair file s) p
   to-file {p} a = record {
     pairing = a .pairing;
     allowed = λ i h. subst T (allowed-is i (column p i) h (a .pairing .below i h)) (a .allowed i h);
   }
 
-  from-file : {p : List ℕ} → AllowedPairing (s .n) (s .n) (may-pair file s) p → AllowedPairing (s .n) (s .n) (allowed of-file) p
+  from-file : {p : List ℕ} → AllowedPairing (s .n) (s .n) (may-pair file s) p → AllowedPairing (s .n) (s .n) (allowed (asked file s)) p
   from-file {p} a = record {
     pairing = a .pairing;
     allowed = λ i h. subst T (sym (allowed-is i (column p i) h (a .pairing .below i h))) (a .allowed i h);
   }
 
-  total-is : {p : List ℕ} → AllowedPairing (s .n) (s .n) (may-pair file s) p → total (cost of-file) (s .n) p ≡ total (clock-cost file s) (s .n) p
+  total-is : {p : List ℕ} → AllowedPairing (s .n) (s .n) (may-pair file s) p → total (cost (asked file s)) (s .n) p ≡ total (clock-cost file s) (s .n) p
   unfolding total
   total-is {p} a = sumℤ-ext _ _ (s .n) (λ i h. cost-is i (column p i) h (a .pairing .below i h) (a .allowed i h))
 
   -- ---- the input is fit
 
   module _ (full : Filled s) (before : Buffers) (room : T (R.room (s .n * s .n) (s .n) before)) where
-    fit : Fit 64 of-file before
+    fit : Fit 64 (asked file s) before
     unfolding square R.bad-mask R.bad-cost R.out-of-range mask-byte pair-cost may-pair
     fit = record {
       some = full .some;
@@ -95,8 +92,8 @@ module _ (file : List ℕ) (s : Scan) where
   -- ---- the sentence about the file
 
   module _ (full : Filled s) {before after : Buffers} {p : Pairs} (room : T (R.room (s .n * s .n) (s .n) (front (s .n) before)))
-      (solved : SolvedBy (s .n) (of-file .costs) (of-file .mask) (s .window) before p after) where
-    promise : Promise 64 of-file (front (s .n) before) (solved .answer) (front (s .n) after)
+      (solved : SolvedBy (s .n) (asked file s .costs) (asked file s .mask) (s .window) before p after) where
+    promise : Promise 64 (asked file s) (front (s .n) before) (solved .answer) (front (s .n) after)
     promise = solved .solver
 
     same-number : p .number ≡ solved .answer .number
@@ -122,12 +119,12 @@ module _ (file : List ℕ) (s : Scan) where
       settled = zero-or-six;
       pairing = λ e. to-file (promise .pairing (sym same-number ∙ e));
       totalled = λ e. let z = sym same-number ∙ e in same-total ∙ promise .totalled z ∙ total-is (to-file (promise .pairing z));
-      least = λ e q a. subst (λ t. p .total ≤ℤ t) (total-is a) (subst (λ t. t ≤ℤ total (cost of-file) (s .n) q) (sym same-total) (promise .least (sym same-number ∙ e) q (from-file a)));
+      least = λ e q a. subst (λ t. p .total ≤ℤ t) (total-is a) (subst (λ t. t ≤ℤ total (cost (asked file s)) (s .n) q) (sym same-total) (promise .least (sym same-number ∙ e) q (from-file a)));
       block = λ e. block (promise .block (sym same-number ∙ e));
       impossible = λ e q a. promise .impossible (sym same-number ∙ e) q (from-file a);
     }
       where
-        block : Block (s .n) (s .n) (allowed of-file) (has (solved .answer .«block_rows»)) (has (solved .answer .«block_columns»))
+        block : Block (s .n) (s .n) (allowed (asked file s)) (has (solved .answer .«block_rows»)) (has (solved .answer .«block_columns»))
             → Block (s .n) (s .n) (may-pair file s) (has (p .«block_rows»)) (has (p .«block_columns»))
         block b = rw (solved .given) record {
           shut = λ i j hi hj r c ok. b .shut i j hi hj r c (subst T (sym (allowed-is i j hi hj)) ok);

@@ -10,7 +10,7 @@ use Rattle.lines.specs.Square.{square}
 use Rattle.lines.specs.Sets.{has}
 use Rattle.assignment.specs.Problem.{AllowedPairing, NoneBelow, Impossible, Block, total}
 use Rattle.steps.specs.declared.Answer.{Answer}
-use Rattle.steps.specs.Lent.{Buffers, task, buffers}
+use Rattle.steps.specs.Lent.{Task, Buffers, task, buffers}
 use Rattle.steps.specs.Refusal.{room}
 use Rattle.steps.specs.Promise.{Promise}
 use Rattle.pairing.specs.declared.Pairs.{Pairs}
@@ -68,6 +68,10 @@ pub record SolvedBy (n : ℕ) (costs : List ℤ) (mask : List ℕ) (window : ℕ
 -- ---- the promise
 
 module _ (file : List ℕ) (s : Scan) where
+  -- what the solver is asked of an accepted file
+  abbrev pub asked : Task
+  asked = task (s .n) (square (pair-cost file s) (s .n)) (square (mask-byte file s) (s .n)) (enough (s .n))
+
   abbrev pub clock-cost : ℕ → ℕ → ℤ
   clock-cost i j = pos (clock-error file s i j)
 

@@ -7,7 +7,7 @@ use native.Mathlib.Omega.{arith}
 use lib.ListN.{length, getD, drop}
 use lib.Seq.{getD-drop}
 use Rattle.storm_case.specs.Numbers.{AreBytes, u16-at, u32-at}
-use Rattle.storm_case.specs.Format.{Fragment, Event, row, little-endian, line-bytes, FragmentFits, EventFits}
+use Rattle.storm_case.specs.Format.{Fragment, Event, Line, row, column, little-endian, line-bytes, lines-bytes, encode, FragmentFits, EventFits}
 
 -- ---- a number
 
@@ -123,3 +123,45 @@ module _ (bytes : List ℕ) (small : AreBytes bytes) where
   pub six-written : {kind : ℕ} → 7 ≤ length bytes → getD bytes 0 0 ≡ kind
       → bytes ≡ kind ∷ (little-endian 2 (u16-at bytes 1) ++ little-endian 4 (u32-at bytes 3) ++ drop 7 bytes)
   six-written l e = rw (two-from 1, four-from 3) (one-by-one 7 bytes l ∙ ap (λ k. k ∷ heads 6 (λ i. getD bytes (suc i) 0) (drop 7 bytes)) e)
+
+-- ---- what is written are bytes
+
+bytes-cons : (x : ℕ) (xs : List ℕ) → x < 256 → AreBytes xs → AreBytes (x ∷ xs)
+bytes-cons x xs h small zero = h
+bytes-cons x xs h small (suc i) = small i
+
+bytes-append : (xs ys : List ℕ) → AreBytes xs → AreBytes ys → AreBytes (xs ++ ys)
+bytes-append [] ys h k i = k i
+bytes-append (x ∷ xs) ys h k zero = h 0
+bytes-append (x ∷ xs) ys h k (suc i) = bytes-append xs ys (λ j. h (suc j)) k i
+
+number-bytes : (k x : ℕ) → AreBytes (little-endian k x)
+unfolding little-endian
+number-bytes zero x = λ i. omega arith
+number-bytes (suc k) x = bytes-cons (x % 256) (little-endian k (x / 256)) (omega arith) (number-bytes k (x / 256))
+
+line-are-bytes : (line : Line) → AreBytes (line-bytes line)
+unfolding line-bytes
+line-are-bytes (row f) =
+    let hut = little-endian 2 (f .hut) in
+    let area = little-endian 2 (f .area) in
+    let clock = little-endian 4 (f .clock) in
+    bytes-cons 2 (hut ++ area ++ clock) (omega arith)
+    (bytes-append (hut ++ area) clock (bytes-append hut area (number-bytes 2 (f .hut)) (number-bytes 2 (f .area))) (number-bytes 4 (f .clock)))
+line-are-bytes (column e) =
+    let area = little-endian 2 (e .area) in
+    let clock = little-endian 4 (e .clock) in
+    bytes-cons 3 (area ++ clock) (omega arith) (bytes-append area clock (number-bytes 2 (e .area)) (number-bytes 4 (e .clock)))
+
+lines-are-bytes : (lines : List Line) → AreBytes (lines-bytes lines)
+unfolding lines-bytes
+lines-are-bytes [] = bytes-cons 4 [] (omega arith) (λ i. omega arith)
+lines-are-bytes (line ∷ lines) = bytes-append (line-bytes line) (lines-bytes lines) (line-are-bytes line) (lines-are-bytes lines)
+
+pub case-are-bytes : (n window : ℕ) (lines : List Line) → AreBytes (encode n window lines)
+unfolding encode
+case-are-bytes n window lines =
+    let size = little-endian 2 n in
+    let apart = little-endian 4 window in
+    bytes-cons 1 (size ++ apart ++ lines-bytes lines) (omega arith)
+    (bytes-append (size ++ apart) (lines-bytes lines) (bytes-append size apart (number-bytes 2 n) (number-bytes 4 window)) (lines-are-bytes lines))

@@ -19,7 +19,7 @@ use Rattle.storm_case.specs.Numbers.{AreBytes}
 use Rattle.storm_case.specs.Scan as D
 use Rattle.storm_case.specs.Case.{clock-error, may-pair, pair-cost, mask-byte, filled, case, case-of, has-cells, read, hut-in, hut}
 use Rattle.storm_case.specs.Format.{Fragment, Event, Line, encode, WellFormed, IsCase, row-at, column-at, Matches}
-use Rattle.storm_case.specs.Format.{Allowed, PairIs, ReadAs}
+use Rattle.storm_case.specs.Format.{Allowed, clocks-apart, PairIs, ReadAs}
 use Rattle.storm_case.proofs.Room.{cells-fit}
 use Rattle.storm_case.proofs.ScanLaws.{never-more}
 use Rattle.storm_case.proofs.Decides.{refused-early}
@@ -81,15 +81,34 @@ module _ {n window : ℕ} {lines : List Line} (h : WellFormed n window lines) wh
   abbrev matches : Matches file scan n window lines
   matches = well-formed-accepted h .matches
 
-  cells-are : (i j : ℕ) → i < n → j < n → PairIs window (row-at lines i) (column-at lines j) (pair-cost file scan i j) (mask-byte file scan i j)
-  unfolding pair-cost mask-byte may-pair clock-error
-  cells-are i j hi hj = rw (
-    matches .window-is,
-    matches .row-area-is i hi,
-    matches .row-clock-is i hi,
-    matches .column-area-is j hj,
-    matches .column-clock-is j hj,
-  ) (pair-rule window (row-at lines i) (column-at lines j))
+  module _ (i j : ℕ) (hi : i < n) (hj : j < n) where
+    may-is : may-pair file scan i j ≡ test window (row-at lines i) (column-at lines j)
+    unfolding may-pair clock-error
+    may-is = rw (
+      matches .window-is,
+      matches .row-area-is i hi,
+      matches .row-clock-is i hi,
+      matches .column-area-is j hj,
+      matches .column-clock-is j hj,
+    )
+
+    apart-is : clock-error file scan i j ≡ apart window (row-at lines i) (column-at lines j)
+    unfolding clock-error
+    apart-is = rw (matches .row-clock-is i hi, matches .column-clock-is j hj)
+
+    cells-are : PairIs window (row-at lines i) (column-at lines j) (pair-cost file scan i j) (mask-byte file scan i j)
+    unfolding pair-cost mask-byte
+    cells-are = rw (may-is, apart-is) (pair-rule window (row-at lines i) (column-at lines j))
+
+    -- what the reader allows, and its difference of the clocks
+    pub pair-allowed : T (may-pair file scan i j) → Allowed window (row-at lines i) (column-at lines j)
+    pair-allowed t = passed window (row-at lines i) (column-at lines j) (subst T may-is t)
+
+    pub allowed-pair : Allowed window (row-at lines i) (column-at lines j) → T (may-pair file scan i j)
+    allowed-pair a = rw (may-is, passes window (row-at lines i) (column-at lines j) a) tt
+
+    pub error-is : clock-error file scan i j ≡ clocks-apart (row-at lines i) (column-at lines j)
+    error-is = apart-is ∙ omega arith
 
   module _ (costs : List ℤ) (mask : List ℕ) (lc : length costs ≡ 4096) (lm : length mask ≡ 4096) where
     answer-is : read file costs mask ≡ (case 0 0 n window, filled n (pair-cost file scan) costs, filled n (mask-byte file scan) mask)

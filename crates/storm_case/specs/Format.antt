@@ -133,9 +133,13 @@ pub record Allowed (window : ℕ) (f : Fragment) (e : Event) : Type 0 where
   pub not-later : f .clock ≤ e .clock + window
   pub not-earlier : e .clock ≤ f .clock + window
 
+-- the absolute difference of the clocks
+abbrev pub clocks-apart : Fragment → Event → ℕ
+clocks-apart f e = max (f .clock) (e .clock) - min (f .clock) (e .clock)
+
 -- the cost and the mask byte of a pair
 pub record PairIs (window : ℕ) (f : Fragment) (e : Event) (cost : ℤ) (byte : ℕ) : Type 0 where
-  pub allowed : Allowed window f e → (byte ≡ 1) × (cost ≡ pos (max (f .clock) (e .clock) - min (f .clock) (e .clock)))
+  pub allowed : Allowed window f e → (byte ≡ 1) × (cost ≡ pos (clocks-apart f e))
   pub forbidden : (Allowed window f e → ⊥) → (byte ≡ 0) × (cost ≡ pos 0)
 
 -- number 0, the first n * n cells by their row and column, the rest as it was lent
