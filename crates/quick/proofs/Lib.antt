@@ -9,6 +9,7 @@ pub mod Flips
 pub mod OpenColumns
 pub mod Cheapests
 pub mod LineLaws
+pub mod Markings
 pub mod PathLaws
 pub mod Starrings
 pub mod WayLaws

@@ -2,10 +2,10 @@
 use mathlib.Core.Path.{_≡_}
 use mathlib.Core.Bool.{Bool, cond}
 use mathlib.Core.List.{List}
-use Prim.Native.Nat.{ℕ, _≤_, _<_}
-use lib.Dec.{eqb}
+use Prim.Native.Nat.{ℕ, _+_, _*_, _≤_, _<_}
+use lib.Dec.{ltb, eqb}
 use lib.IntN.{ℤ, pos, _-ℤ_}
-use lib.ListN.{length, getD}
+use lib.ListN.{length, getD, set}
 use Rattle.lines.specs.Square.{square, table as table-of}
 use Rattle.lines.specs.Bounds.{Within}
 use Rattle.steps.specs.Lent.{most-cost, allows, cost-at}
@@ -27,6 +27,10 @@ working-of n costs mask row-prices column-prices =
 
 unfoldable pub marks-of : ℕ → List ℕ → List ℕ → List ℕ
 marks-of n star prime = square (λ i j. cond (eqb (getD star i 0) j) 1 (cond (eqb (getD prime i 0) j) 2 0)) n
+
+-- marks with one more in a row, where its column is one
+unfoldable pub with-mark : ℕ → ℕ → ℕ → ℕ → List ℕ → List ℕ
+with-mark n row column mark marks = cond (ltb column n) (set marks (row * n + column) mark) marks
 
 -- the marks that step 2 leaves
 abbrev pub first-marks : ℕ → List ℤ → List ℕ → List ℕ

@@ -1,18 +1,18 @@
 // Stars and primes by lines: the column of each row's star, the row of each column's star, the column of each row's prime; n where there is none.
 ghost use mathlib.Core.Path.{_≡_};
-ghost use mathlib.Core.Bool.{cond, not, _&&_};
+ghost use mathlib.Core.Bool.{not, _&&_};
 ghost use Prim.Native.Nat.{ℕ, _<_, _≤_};
 ghost use lib.Dec.{ltb, eqb};
 ghost use lib.IntN.{pos, _-ℤ_};
 ghost use lib.ListN.{length, getD};
 ghost use Rattle.lines.specs.First.{first};
 ghost use Rattle.lines.specs.Count.{count};
-ghost use Rattle.lines.specs.Square.{table, each-row};
+ghost use Rattle.lines.specs.Square.{table};
 ghost use Rattle.lines.specs.Sets.{has, those};
 ghost use Rattle.steps.specs.Lent.{allows, cost-at};
 ghost use Rattle.steps.specs.Steps.{is-zero, star-in-row, star-in-column};
 ghost use Rattle.ground.specs.Square.{Square};
-ghost use Rattle.quick.specs.Shown.{first-marks, marks-of};
+ghost use Rattle.quick.specs.Shown.{first-marks, marks-of, with-mark};
 ghost use Rattle.quick.specs.Ways.{flipped};
 ghost use Rattle.quick.specs.Asks.{CostsPrice, Stars, StarsRow, FlipsPath, WritesMarks};
 use crate::values;
@@ -145,27 +145,24 @@ pub(crate) fn flip_path(
     }
 }
 
-fn mark_of(star: usize, prime: usize, column: usize) -> u8
-    ensures { λ r. ⌜ r ≡ cond (eqb star column) 1 (cond (eqb prime column) 2 0) ⌝ }
+// No marks.
+fn clear_marks(marks: &mut [u8])
+    ensures { λ _. ⌜ now (marks .exit) ≡ table (λ k. 0) (length (now (marks .entry))) ⌝ }
 {
-    if star == column {
-        return 1;
+    let mut place = 0;
+    while place < marks.len() {
+        marks[place] = 0;
+        place += 1;
     }
-    if prime == column {
-        return 2;
-    }
-    0
 }
 
-fn write_row(n: usize, row: usize, star: usize, prime: usize, marks: &mut [u8])
+// A mark in a row, where the column is one.
+fn put_mark(n: usize, row: usize, column: usize, mark: u8, marks: &mut [u8])
     requires { ⌜ Square n (now marks) × (row < n) ⌝ }
-    ensures { λ _. ⌜ now (marks .exit) ≡ each-row n row (λ j m. cond (eqb star j) 1 (cond (eqb prime j) 2 0)) (now (marks .entry)) ⌝ }
+    ensures { λ _. ⌜ now (marks .exit) ≡ with-mark n row column mark (now (marks .entry)) ⌝ }
 {
-    let start = row * n;
-    let mut column = 0;
-    while column < n {
-        marks[start + column] = mark_of(star, prime, column);
-        column += 1;
+    if column < n {
+        marks[row * n + column] = mark;
     }
 }
 
@@ -174,9 +171,11 @@ pub(crate) fn write_marks(n: usize, star: &[usize], prime: &[usize], marks: &mut
     requires { ⌜ WritesMarks n (now star) (now prime) (now marks) ⌝ }
     ensures { λ _. ⌜ now (marks .exit) ≡ marks-of n (now (star .entry)) (now (prime .entry)) ⌝ }
 {
+    clear_marks(marks);
     let mut row = 0;
     while row < n {
-        write_row(n, row, star[row], prime[row], marks);
+        put_mark(n, row, prime[row], 2, marks);
+        put_mark(n, row, star[row], 1, marks);
         row += 1;
     }
 }
