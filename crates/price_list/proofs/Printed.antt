@@ -14,8 +14,7 @@ use Rattle.storm_case.specs.Pair.{fresh}
 use Rattle.storm_case.proofs.Decides.{cut-said}
 use Rattle.storm_case.proofs.OnlyPairs.{OnlyAnswer, only-pairs, first-pairs}
 use Rattle.text.specs.Text.{put}
-use Rattle.price_list.specs.Lines.{allowed-of}
-use Rattle.price_list.specs.List.{cell-line}
+use Rattle.listing.specs.List.{allowed-of, cell-line}
 use Rattle.price_list.specs.Report.{huts, text-of, Reported}
 
 -- Two reports of a file are equal: the count, and every byte of the buffer. Of the solver only its promise is known here: see `Closed`.

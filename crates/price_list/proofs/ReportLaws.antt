@@ -10,9 +10,9 @@ use Rattle.storm_case.specs.Pair.{Loan, fresh, PairPromise}
 use Rattle.storm_case.proofs.Fronts.{fresh-room}
 use Rattle.text.specs.Text.{put}
 use Rattle.text.specs.Numbers.{refusal}
-use Rattle.price_list.specs.Listed.{SumOf}
-use Rattle.price_list.specs.List.{list}
-use Rattle.price_list.specs.Block.{block}
+use Rattle.listing.specs.Listed.{SumOf}
+use Rattle.listing.specs.List.{list}
+use Rattle.shortage.specs.Block.{block}
 use Rattle.price_list.specs.Report.{huts, text-of, Reported}
 use Rattle.price_list.proofs.Theorems.{adds-up}
 

@@ -13,8 +13,8 @@ use Rattle.storm_case.specs.Said.{said}
 use Rattle.storm_case.specs.Pair.{Loan, fresh, PairPromise}
 use Rattle.text.specs.Text.{put}
 use Rattle.text.specs.Numbers.{refusal}
-use Rattle.price_list.specs.List.{list}
-use Rattle.price_list.specs.Block.{block}
+use Rattle.listing.specs.List.{list}
+use Rattle.shortage.specs.Block.{block}
 
 -- the hut of every row, where the program has room for 64
 abbrev pub huts : List ℕ → List ℕ

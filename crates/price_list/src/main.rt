@@ -1,11 +1,6 @@
 // Reads a case file from standard input and prints why its pairing is right: the price list, or the block that leaves no pairing.
 // Where reading or writing fails it says so on standard error, and nothing else.
-mod block;
-mod list;
-mod numbers;
 mod report;
-mod row;
-mod words;
 
 use input::Input;
 use libc::STDOUT_FILENO;

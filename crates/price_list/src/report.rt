@@ -1,8 +1,5 @@
 // A file paired on buffers of the stack, and what is printed of it: the price list, the block, or the refusal.
 ghost use Rattle.price_list.specs.Report.{Reported};
-use crate::block;
-use crate::list;
-use crate::numbers;
 
 pub(crate) fn report(file: &[u8], out: &mut [u8]) -> usize
     ensures { λ r. ⌜ Reported (now (file .entry)) (now (out .entry)) r (now (out .exit)) ⌝ }
@@ -27,9 +24,9 @@ pub(crate) fn report(file: &[u8], out: &mut [u8]) -> usize
     let mut huts = [0u16; 64];
     storm_case::huts_of(file, &mut huts);
     if pairs.number == 0 {
-        let all_rows = numbers::sum(pairs.n, &row_prices);
-        let all_events = numbers::sum(pairs.n, &column_prices);
-        return list::put_list(
+        let all_rows = listing::sum(pairs.n, &row_prices);
+        let all_events = listing::sum(pairs.n, &column_prices);
+        return listing::put_list(
             &huts,
             pairs.n,
             pairs.window,
@@ -46,7 +43,7 @@ pub(crate) fn report(file: &[u8], out: &mut [u8]) -> usize
         );
     }
     if pairs.number == 6 {
-        return block::put_block(
+        return shortage::put_block(
             out,
             pairs.n,
             pairs.window,
