@@ -52,6 +52,14 @@ plural count = cond (eqb count 1) [] (ascii "s")
 unfoldable pub counted : ℕ → List ℕ → List ℕ
 counted count thing = decimal count ++ ascii " " ++ thing ++ plural count
 
+-- as `3 fragments, 3 events`
+unfoldable pub counts : ℕ → List ℕ
+counts n = counted n (ascii "fragment") ++ ascii ", " ++ counted n (ascii "event")
+
+-- how large a case is, and its window
+unfoldable pub size : ℕ → ℕ → List ℕ
+size n window = counts n ++ ascii ", clocks at most " ++ decimal window ++ ascii " ms apart"
+
 -- ---- line after line
 
 -- the lines of 0, .., n - 1

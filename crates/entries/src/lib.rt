@@ -9,3 +9,4 @@ pub use row::put_price;
 pub use row::put_price_sum;
 pub use row::put_sums;
 pub use words::put_counted;
+pub use words::put_size;

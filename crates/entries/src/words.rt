@@ -1,7 +1,7 @@
 // Words and numbers, put one after another.
 ghost use mathlib.Core.Path.{_≡_};
 ghost use Rattle.text.specs.Text.{put};
-ghost use Rattle.entries.specs.Lines.{plural, counted};
+ghost use Rattle.entries.specs.Lines.{plural, counted, counts, size};
 
 // An `s` behind more things than one, or none.
 fn put_plural(out: &mut [u8], used: usize, count: usize) -> usize
@@ -21,4 +21,23 @@ pub fn put_counted(out: &mut [u8], used: usize, count: usize, thing: &[u8]) -> u
     let after_blank = text::put(out, after_count, b" ");
     let after_thing = text::put(out, after_blank, thing);
     put_plural(out, after_thing, count)
+}
+
+// As `3 fragments, 3 events`.
+fn put_counts(out: &mut [u8], used: usize, n: usize) -> usize
+    ensures { λ r. ⌜ (r, now (out .exit)) ≡ put (now (out .entry)) used (counts n) ⌝ }
+{
+    let after_rows = put_counted(out, used, n, b"fragment");
+    let after_comma = text::put(out, after_rows, b", ");
+    put_counted(out, after_comma, n, b"event")
+}
+
+// How large a case is, and its window.
+pub fn put_size(out: &mut [u8], used: usize, n: usize, window: u32) -> usize
+    ensures { λ r. ⌜ (r, now (out .exit)) ≡ put (now (out .entry)) used (size n window) ⌝ }
+{
+    let after_counts = put_counts(out, used, n);
+    let after_words = text::put(out, after_counts, b", clocks at most ");
+    let after_window = text::put_decimal(out, after_words, window as u64);
+    text::put(out, after_window, b" ms apart")
 }

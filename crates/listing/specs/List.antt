@@ -1,14 +1,14 @@
 -- The price list as one text, section after section.
-use mathlib.Core.Bool.{cond}
+use mathlib.Core.Bool.{Bool, cond}
 use mathlib.Core.List.{List, [], _++_}
 use Prim.Native.Nat.{ℕ, _*_, _/_, _%_}
 use lib.Dec.{eqb}
 use lib.IntN.{ℤ, pos}
 use lib.ListN.{getD}
 use Rattle.text.specs.Ascii.{ascii}
-use Rattle.text.specs.Numbers.{decimal, signed}
+use Rattle.text.specs.Numbers.{signed}
 use Rattle.lines.specs.Square.{cell}
-use Rattle.entries.specs.Lines.{each-line, counted, pair-line, sums-line, price-line, price-sum-line, allowed-line}
+use Rattle.entries.specs.Lines.{each-line, size, pair-line, sums-line, price-line, price-sum-line, allowed-line}
 
 -- ---- the lines of the huts and what `pair_case` wrote
 
@@ -26,10 +26,10 @@ allowed-of n costs working row-prices column-prices row event =
 
 -- ---- the sections
 
-unfoldable pub size-lines : ℕ → ℕ → List ℕ
-size-lines n window =
-    ascii "PRICE LIST\n" ++ counted n (ascii "fragment") ++ ascii ", " ++ counted n (ascii "event")
-    ++ ascii ", clocks at most " ++ decimal window ++ ascii " ms apart; differences and prices in ms\n\n"
+-- the title, how large the case is, and how to read a price below 0
+unfoldable pub head : ℕ → ℕ → List ℕ
+head n window =
+    ascii "PRICE LIST\n" ++ size n window ++ ascii "; differences and prices in ms.\n" ++ ascii "A price may be negative; only sums of prices count.\n\n"
 
 unfoldable pub pair-lines : List ℕ → ℕ → List ℤ → List ℕ → List ℤ → List ℤ → List ℕ
 pair-lines huts n costs columns row-prices column-prices =
@@ -42,6 +42,11 @@ event-price-lines n column-prices sum =
 
 unfoldable pub total-line : ℤ → List ℕ
 total-line total = ascii "\nTOTAL " ++ signed total ++ ascii "\n"
+
+-- the pairing, with the sums of the prices
+unfoldable pub pairing-lines : List ℕ → ℕ → ℤ → ℤ → ℤ → List ℤ → List ℕ → List ℤ → List ℤ → List ℕ
+pairing-lines huts n total rows events costs columns row-prices column-prices =
+    pair-lines huts n costs columns row-prices column-prices ++ sums-line total rows events ++ event-price-lines n column-prices events ++ total-line total
 
 unfoldable pub sum-words : ℤ → ℤ → ℤ → List ℕ
 sum-words total rows events = signed rows ++ ascii " + " ++ signed events ++ ascii " = " ++ signed total
@@ -63,8 +68,7 @@ every-pair n costs mask working row-prices column-prices =
     ascii "  row  event   difference =     row price +   event price +         spare\n"
     ++ each-line (cell-line n costs mask working row-prices column-prices) (n * n)
 
--- the whole list, with the sums of the prices
-unfoldable pub list : List ℕ → ℕ → ℕ → ℤ → ℤ → ℤ → List ℤ → List ℕ → List ℤ → List ℕ → List ℤ → List ℤ → List ℕ
-list huts n window total rows events costs mask working columns row-prices column-prices =
-    size-lines n window ++ pair-lines huts n costs columns row-prices column-prices ++ sums-line total rows events
-    ++ event-price-lines n column-prices events ++ total-line total ++ reason total rows events ++ every-pair n costs mask working row-prices column-prices
+-- that no pairing costs less, and every allowed pair; a short list has neither
+unfoldable pub least-lines : Bool → ℕ → ℤ → ℤ → ℤ → List ℤ → List ℕ → List ℤ → List ℤ → List ℤ → List ℕ
+least-lines short n total rows events costs mask working row-prices column-prices =
+    cond short [] (reason total rows events ++ every-pair n costs mask working row-prices column-prices)

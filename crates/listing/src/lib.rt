@@ -2,5 +2,7 @@
 mod list;
 mod numbers;
 
-pub use list::put_list;
+pub use list::put_head;
+pub use list::put_least;
+pub use list::put_pairing;
 pub use numbers::sum;

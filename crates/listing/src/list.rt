@@ -3,22 +3,20 @@ ghost use mathlib.Core.Path.{_≡_};
 ghost use Prim.Native.Nat.{_*_, _≤_, _<_};
 ghost use Rattle.text.specs.Text.{put};
 ghost use Rattle.listing.specs.Listed.{Listed, InList};
-ghost use Rattle.listing.specs.List.{pair-of, allowed-of, size-lines, pair-lines, event-price-lines, total-line, sum-words, reason, cell-line, every-pair, list};
+ghost use Rattle.listing.specs.List.{head, pair-of, pair-lines, event-price-lines, total-line, pairing-lines};
+ghost use Rattle.listing.specs.List.{allowed-of, sum-words, reason, cell-line, every-pair, least-lines};
 
-// The title, and how large the case is.
-fn put_size(out: &mut [u8], used: usize, n: usize, window: u32) -> usize
-    ensures { λ r. ⌜ (r, now (out .exit)) ≡ put (now (out .entry)) used (size-lines n window) ⌝ }
+// The title, how large the case is, and how to read a price below 0.
+pub fn put_head(out: &mut [u8], n: usize, window: u32) -> usize
+    ensures { λ r. ⌜ (r, now (out .exit)) ≡ put (now (out .entry)) 0 (head n window) ⌝ }
 {
-    let after_title = text::put(out, used, b"PRICE LIST\n");
-    let after_rows = entries::put_counted(out, after_title, n, b"fragment");
-    let after_comma = text::put(out, after_rows, b", ");
-    let after_events = entries::put_counted(out, after_comma, n, b"event");
-    let after_words = text::put(out, after_events, b", clocks at most ");
-    let after_window = text::put_decimal(out, after_words, window as u64);
+    let after_title = text::put(out, 0, b"PRICE LIST\n");
+    let after_size = entries::put_size(out, after_title, n, window);
+    let after_units = text::put(out, after_size, b"; differences and prices in ms.\n");
     text::put(
         out,
-        after_window,
-        b" ms apart; differences and prices in ms\n\n",
+        after_units,
+        b"A price may be negative; only sums of prices count.\n\n",
     )
 }
 
@@ -254,27 +252,24 @@ fn put_every_pair(
     at
 }
 
-// The whole list, with the sums of the prices.
-pub fn put_list(
+// The pairing: its pairs with their prices, the sums of the prices, the price of every event, and the total.
+pub fn put_pairing(
     huts: &[u16; 64],
     n: usize,
-    window: u32,
     total: i64,
     all_rows: i64,
     all_events: i64,
     costs: &[i32; 4096],
-    mask: &[u8; 4096],
-    working: &[i64; 4096],
     columns: &[u16; 64],
     row_prices: &[i64; 64],
     column_prices: &[i64; 64],
     out: &mut [u8],
+    used: usize,
 ) -> usize
     requires { ⌜ Listed n (now columns) ⌝ }
-    ensures { λ r. ⌜ (r, now (out .exit)) ≡ put (now (out .entry)) 0 (list (now (huts .entry)) n window total «all_rows» «all_events»
-        (now (costs .entry)) (now (mask .entry)) (now (working .entry)) (now (columns .entry)) (now («row_prices» .entry)) (now («column_prices» .entry))) ⌝ }
+    ensures { λ r. ⌜ (r, now (out .exit)) ≡ put (now (out .entry)) used (pairing-lines (now (huts .entry)) n total «all_rows» «all_events»
+        (now (costs .entry)) (now (columns .entry)) (now («row_prices» .entry)) (now («column_prices» .entry))) ⌝ }
 {
-    let after_size = put_size(out, 0, n, window);
     let after_pairs = put_pairs(
         huts,
         n,
@@ -283,12 +278,36 @@ pub fn put_list(
         row_prices,
         column_prices,
         out,
-        after_size,
+        used,
     );
     let after_sums = entries::put_sums(out, after_pairs, total, all_rows, all_events);
     let after_prices = put_event_prices(n, column_prices, all_events, out, after_sums);
-    let after_total = put_total(out, after_prices, total);
-    let after_reason = put_reason(out, after_total, total, all_rows, all_events);
+    put_total(out, after_prices, total)
+}
+
+// That no pairing costs less, and every allowed pair; a short list has neither.
+pub fn put_least(
+    short: bool,
+    n: usize,
+    total: i64,
+    all_rows: i64,
+    all_events: i64,
+    costs: &[i32; 4096],
+    mask: &[u8; 4096],
+    working: &[i64; 4096],
+    row_prices: &[i64; 64],
+    column_prices: &[i64; 64],
+    out: &mut [u8],
+    used: usize,
+) -> usize
+    requires { ⌜ n ≤ 64 ⌝ }
+    ensures { λ r. ⌜ (r, now (out .exit)) ≡ put (now (out .entry)) used (least-lines short n total «all_rows» «all_events»
+        (now (costs .entry)) (now (mask .entry)) (now (working .entry)) (now («row_prices» .entry)) (now («column_prices» .entry))) ⌝ }
+{
+    if short {
+        return text::put(out, used, b"");
+    }
+    let after_reason = put_reason(out, used, total, all_rows, all_events);
     put_every_pair(
         n,
         costs,

@@ -1,8 +1,9 @@
 // A file paired on buffers of the stack, and what is printed of it: the price list, the block, or the refusal.
 ghost use Rattle.price_list.specs.Report.{Reported};
+use crate::print;
 
-pub(crate) fn report(file: &[u8], out: &mut [u8]) -> usize
-    ensures { λ r. ⌜ Reported (now (file .entry)) (now (out .entry)) r (now (out .exit)) ⌝ }
+pub(crate) fn report(short: bool, file: &[u8], out: &mut [u8]) -> usize
+    ensures { λ r. ⌜ Reported short (now (file .entry)) (now (out .entry)) r (now (out .exit)) ⌝ }
 {
     let mut costs = [0i32; 4096];
     let mut mask = [0u8; 4096];
@@ -26,7 +27,9 @@ pub(crate) fn report(file: &[u8], out: &mut [u8]) -> usize
     if pairs.number == 0 {
         let all_rows = listing::sum(pairs.n, &row_prices);
         let all_events = listing::sum(pairs.n, &column_prices);
-        return listing::put_list(
+        return print::put_list(
+            short,
+            file,
             &huts,
             pairs.n,
             pairs.window,
@@ -43,13 +46,15 @@ pub(crate) fn report(file: &[u8], out: &mut [u8]) -> usize
         );
     }
     if pairs.number == 6 {
-        return shortage::put_block(
-            out,
+        return print::put_block(
+            file,
+            &huts,
             pairs.n,
             pairs.window,
             pairs.block_rows,
             pairs.block_columns,
-            &huts,
+            &mask,
+            out,
         );
     }
     text::put_refusal(out, 0, pairs.number, pairs.place)

@@ -1,4 +1,4 @@
--- Why there is no pairing, as one text: the fragments of the block, the events that are left for them, and the events of the block.
+-- Why there is no pairing, in words: the fragments of the block, the events that are left for them, and the events of the block.
 use mathlib.Core.Bool.{Bool, true, false, cond, not}
 use mathlib.Core.List.{List, [], _++_}
 use Prim.Native.Nat.{ℕ, _-_}
@@ -8,11 +8,15 @@ use Rattle.lines.specs.Count.{count}
 use Rattle.lines.specs.Sets.{has}
 use Rattle.text.specs.Ascii.{ascii}
 use Rattle.text.specs.Numbers.{decimal}
-use Rattle.entries.specs.Lines.{each-line, counted, hut-line}
+use Rattle.entries.specs.Lines.{each-line, counted, size, hut-line}
 
--- one thing as `this event`, more as `these 2 events`
-unfoldable pub these : ℕ → List ℕ → List ℕ → List ℕ → List ℕ
-these number one more thing = cond (eqb number 1) (one ++ thing) (more ++ counted number thing)
+-- the title, and how large the case is
+unfoldable pub head : ℕ → ℕ → List ℕ
+head n window = ascii "NO PAIRING\n" ++ size n window ++ ascii "\n\n"
+
+-- one as `This fragment`, more as `These 2 fragments`
+unfoldable pub these : ℕ → List ℕ → List ℕ → List ℕ
+these number one more = cond (eqb number 1) (one ++ ascii "fragment") (more ++ counted number (ascii "fragment"))
 
 -- a row of the set
 unfoldable pub block-row : ℕ → ℕ → ℕ → List ℕ
@@ -29,13 +33,32 @@ unfoldable pub event-word : Bool → ℕ → List ℕ
 event-word shown event = cond shown (ascii " " ++ decimal event) []
 
 unfoldable pub event-words : ℕ → ℕ → Bool → List ℕ
-event-words n events inside = ascii ":" ++ each-line (λ event. event-word (named events inside event) event) n ++ ascii "\n"
+event-words n events inside = each-line (λ event. event-word (named events inside event) event) n ++ ascii "\n"
+
+-- one is merely named, and more are counted first
+unfoldable pub event-count : ℕ → List ℕ → List ℕ → List ℕ
+event-count number one more = cond (eqb number 1) (one ++ ascii "event") (more ++ counted number (ascii "event") ++ ascii ":")
+
+-- as `event 0`, or `these 2 events: 0 3`, after words for the one and for the other
+unfoldable pub event-names : ℕ → List ℕ → List ℕ → ℕ → ℕ → Bool → List ℕ
+event-names number one more n events inside = event-count number one more ++ event-words n events inside
+
+-- the fragments of the block
+unfoldable pub fragments : ℕ → ℕ → ℕ → List ℕ → List ℕ
+fragments number n rows huts = these number (ascii "This ") (ascii "These ") ++ ascii ":\n" ++ block-rows n rows huts
 
 -- the events outside the block
 unfoldable pub left-words : ℕ → ℕ → ℕ → List ℕ
 left-words n events left =
     cond (eqb left 0) (ascii "may be paired with no event,\n")
-    (ascii "may be paired only with " ++ counted left (ascii "event") ++ event-words n events false)
+    (event-names left (ascii "may be paired only with ") (ascii "may be paired only with these ") n events false)
+
+-- that no pair of the block is allowed
+unfoldable pub since : ℕ → ℕ → ℕ → ℕ → ℕ → List ℕ
+since row-count event-count n window events =
+    these row-count (ascii "since this ") (ascii "since each of these ")
+    ++ event-names event-count (ascii " and ") (ascii " and each of these ") n events true
+    ++ ascii "differ in area or lie more than " ++ decimal window ++ ascii " ms apart.\n"
 
 unfoldable pub end-words : ℕ → ℕ → List ℕ
 end-words rows left =
@@ -45,10 +68,5 @@ end-words rows left =
 unfoldable pub block : ℕ → ℕ → ℕ → ℕ → List ℕ → List ℕ
 block n window rows events huts =
     let row-count = count (has rows) n in
-    let event-count = count (has events) n in
-    let left = n - event-count in
-    ascii "NO PAIRING\n" ++ these row-count (ascii "This ") (ascii "These ") (ascii "fragment") ++ ascii ":\n" ++ block-rows n rows huts
-    ++ left-words n events left
-    ++ these row-count (ascii "since this ") (ascii "since each of these ") (ascii "fragment")
-    ++ these event-count (ascii " and this ") (ascii " and each of these ") (ascii "event") ++ event-words n events true
-    ++ ascii "differ in area or lie more than " ++ decimal window ++ ascii " ms apart.\n" ++ end-words row-count left
+    let left = n - count (has events) n in
+    fragments row-count n rows huts ++ left-words n events left ++ since row-count (count (has events) n) n window events ++ end-words row-count left

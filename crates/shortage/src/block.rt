@@ -2,26 +2,29 @@
 ghost use mathlib.Core.Path.{_≡_};
 ghost use Prim.Native.Nat.{_≤_, _<_};
 ghost use Rattle.text.specs.Text.{put};
-ghost use Rattle.shortage.specs.Block.{these, block-row, block-rows, named as Block·named, event-word, event-words, left-words, end-words, block};
+ghost use Rattle.shortage.specs.Block.{head, these, block-row, block-rows, named as Block·named, event-word, event-words, event-count, event-names};
+ghost use Rattle.shortage.specs.Block.{fragments, left-words, since, end-words, block};
 use crate::numbers;
 
-// One thing as `this event`, more as `these 2 events`.
-fn put_these(
-    out: &mut [u8],
-    used: usize,
-    count: usize,
-    one: &[u8],
-    more: &[u8],
-    thing: &[u8],
-) -> usize
-    ensures { λ r. ⌜ (r, now (out .exit)) ≡ put (now (out .entry)) used (these count (now (one .entry)) (now (more .entry)) (now (thing .entry))) ⌝ }
+// The title, and how large the case is.
+pub fn put_head(out: &mut [u8], n: usize, window: u32) -> usize
+    ensures { λ r. ⌜ (r, now (out .exit)) ≡ put (now (out .entry)) 0 (head n window) ⌝ }
+{
+    let after_title = text::put(out, 0, b"NO PAIRING\n");
+    let after_size = entries::put_size(out, after_title, n, window);
+    text::put(out, after_size, b"\n\n")
+}
+
+// One as `This fragment`, more as `These 2 fragments`.
+fn put_these(out: &mut [u8], used: usize, count: usize, one: &[u8], more: &[u8]) -> usize
+    ensures { λ r. ⌜ (r, now (out .exit)) ≡ put (now (out .entry)) used (these count (now (one .entry)) (now (more .entry))) ⌝ }
 {
     if count == 1 {
         let after_one = text::put(out, used, one);
-        return text::put(out, after_one, thing);
+        return text::put(out, after_one, b"fragment");
     }
     let after_more = text::put(out, used, more);
-    entries::put_counted(out, after_more, count, thing)
+    entries::put_counted(out, after_more, count, b"fragment")
 }
 
 // The line of a row, where the set has it.
@@ -75,13 +78,61 @@ fn put_event_words(out: &mut [u8], used: usize, n: usize, events: u64, inside: b
     requires { ⌜ n ≤ 64 ⌝ }
     ensures { λ r. ⌜ (r, now (out .exit)) ≡ put (now (out .entry)) used (event-words n events inside) ⌝ }
 {
-    let mut at = text::put(out, used, b":");
+    let mut at = text::put(out, used, b"");
     let mut event = 0;
     while event < n {
         at = put_event_word(out, at, named(events, inside, event), event);
         event += 1;
     }
     text::put(out, at, b"\n")
+}
+
+// One is merely named, and more are counted first.
+fn put_event_count(out: &mut [u8], used: usize, count: usize, one: &[u8], more: &[u8]) -> usize
+    ensures { λ r. ⌜ (r, now (out .exit)) ≡ put (now (out .entry)) used (event-count count (now (one .entry)) (now (more .entry))) ⌝ }
+{
+    if count == 1 {
+        let after_one = text::put(out, used, one);
+        return text::put(out, after_one, b"event");
+    }
+    let after_more = text::put(out, used, more);
+    let after_count = entries::put_counted(out, after_more, count, b"event");
+    text::put(out, after_count, b":")
+}
+
+// As `event 0`, or `these 2 events: 0 3`, after words for the one and for the other.
+fn put_event_names(
+    out: &mut [u8],
+    used: usize,
+    count: usize,
+    one: &[u8],
+    more: &[u8],
+    n: usize,
+    events: u64,
+    inside: bool,
+) -> usize
+    requires { ⌜ n ≤ 64 ⌝ }
+    ensures { λ r. ⌜ (r, now (out .exit)) ≡ put (now (out .entry)) used (event-names count (now (one .entry)) (now (more .entry)) n events inside) ⌝ }
+{
+    let after_count = put_event_count(out, used, count, one, more);
+    put_event_words(out, after_count, n, events, inside)
+}
+
+// The fragments of the block, with their huts.
+fn put_fragments(
+    out: &mut [u8],
+    used: usize,
+    count: usize,
+    n: usize,
+    rows: u64,
+    huts: &[u16; 64],
+) -> usize
+    requires { ⌜ n ≤ 64 ⌝ }
+    ensures { λ r. ⌜ (r, now (out .exit)) ≡ put (now (out .entry)) used (fragments count n rows (now (huts .entry))) ⌝ }
+{
+    let after_these = put_these(out, used, count, b"This ", b"These ");
+    let after_colon = text::put(out, after_these, b":\n");
+    put_block_rows(out, after_colon, n, rows, huts)
 }
 
 // The events outside the block.
@@ -92,9 +143,51 @@ fn put_left(out: &mut [u8], used: usize, n: usize, events: u64, left: usize) -> 
     if left == 0 {
         return text::put(out, used, b"may be paired with no event,\n");
     }
-    let after_words = text::put(out, used, b"may be paired only with ");
-    let after_count = entries::put_counted(out, after_words, left, b"event");
-    put_event_words(out, after_count, n, events, false)
+    put_event_names(
+        out,
+        used,
+        left,
+        b"may be paired only with ",
+        b"may be paired only with these ",
+        n,
+        events,
+        false,
+    )
+}
+
+// That no pair of the block is allowed.
+fn put_since(
+    out: &mut [u8],
+    used: usize,
+    row_count: usize,
+    event_count: usize,
+    n: usize,
+    window: u32,
+    events: u64,
+) -> usize
+    requires { ⌜ n ≤ 64 ⌝ }
+    ensures { λ r. ⌜ (r, now (out .exit)) ≡ put (now (out .entry)) used (since «row_count» «event_count» n window events) ⌝ }
+{
+    let after_these = put_these(
+        out,
+        used,
+        row_count,
+        b"since this ",
+        b"since each of these ",
+    );
+    let after_events = put_event_names(
+        out,
+        after_these,
+        event_count,
+        b" and ",
+        b" and each of these ",
+        n,
+        events,
+        true,
+    );
+    let after_differ = text::put(out, after_events, b"differ in area or lie more than ");
+    let after_window = text::put_decimal(out, after_differ, window as u64);
+    text::put(out, after_window, b" ms apart.\n")
 }
 
 fn put_end(out: &mut [u8], used: usize, rows: usize, left: usize) -> usize
@@ -111,6 +204,7 @@ fn put_end(out: &mut [u8], used: usize, rows: usize, left: usize) -> usize
 
 pub fn put_block(
     out: &mut [u8],
+    used: usize,
     n: usize,
     window: u32,
     rows: u64,
@@ -118,42 +212,13 @@ pub fn put_block(
     huts: &[u16; 64],
 ) -> usize
     requires { ⌜ n ≤ 64 ⌝ }
-    ensures { λ r. ⌜ (r, now (out .exit)) ≡ put (now (out .entry)) 0 (block n window rows events (now (huts .entry))) ⌝ }
+    ensures { λ r. ⌜ (r, now (out .exit)) ≡ put (now (out .entry)) used (block n window rows events (now (huts .entry))) ⌝ }
 {
     let row_count = numbers::count(n, rows);
     let event_count = numbers::count(n, events);
     let left = numbers::count_others(n, events);
-    let after_title = text::put(out, 0, b"NO PAIRING\n");
-    let after_these = put_these(
-        out,
-        after_title,
-        row_count,
-        b"This ",
-        b"These ",
-        b"fragment",
-    );
-    let after_colon = text::put(out, after_these, b":\n");
-    let after_rows = put_block_rows(out, after_colon, n, rows, huts);
+    let after_rows = put_fragments(out, used, row_count, n, rows, huts);
     let after_left = put_left(out, after_rows, n, events, left);
-    let after_since = put_these(
-        out,
-        after_left,
-        row_count,
-        b"since this ",
-        b"since each of these ",
-        b"fragment",
-    );
-    let after_and = put_these(
-        out,
-        after_since,
-        event_count,
-        b" and this ",
-        b" and each of these ",
-        b"event",
-    );
-    let after_events = put_event_words(out, after_and, n, events, true);
-    let after_differ = text::put(out, after_events, b"differ in area or lie more than ");
-    let after_window = text::put_decimal(out, after_differ, window as u64);
-    let after_apart = text::put(out, after_window, b" ms apart.\n");
-    put_end(out, after_apart, row_count, left)
+    let after_since = put_since(out, after_left, row_count, event_count, n, window, events);
+    put_end(out, after_since, row_count, left)
 }

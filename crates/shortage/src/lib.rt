@@ -3,3 +3,4 @@ mod block;
 mod numbers;
 
 pub use block::put_block;
+pub use block::put_head;
