@@ -1,9 +1,7 @@
-pub mod ListLaws
-pub mod SumLaws
-pub mod PlaceLaws
 pub mod PromiseLaws
 pub mod SolverLaws
 pub mod Theorems
+pub mod FitLaws
 pub mod ReportLaws
 pub mod Printed
 pub mod Closed

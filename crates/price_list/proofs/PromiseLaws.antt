@@ -10,7 +10,7 @@ use Rattle.pairing.specs.declared.Pairs.{Pairs}
 use Rattle.storm_case.specs.Scan.{Judged, more, refused, accepted, judged}
 use Rattle.pairing.specs.Pair.{Loan, enough-room, front, PairPromise}
 use Rattle.storm_case.proofs.ScanLaws.{never-more, accepted-filled, refused-some}
-use Rattle.price_list.specs.Listed.{Listed}
+use Rattle.listing.specs.Listed.{Listed}
 
 module _ {file : List ℕ} {before : Loan} {p : Pairs} {after : Loan} (x : PairPromise file before p after) (room : enough-room before ≡ true) where
   pub few-rows : p .n ≤ 64

@@ -19,7 +19,7 @@ use Rattle.storm_case.specs.Scan.{Scan, Judged, more, refused, accepted, judged
 use Rattle.storm_case.specs.Case.{pair-cost, mask-byte, filled}
 use Rattle.pairing.specs.Pair.{Loan, enough-room, front, Solved, PairPromise}
 use Rattle.storm_case.proofs.ScanLaws.{never-more, accepted-filled, refused-some}
-use Rattle.price_list.specs.Listed.{SumOf}
+use Rattle.listing.specs.Listed.{SumOf}
 use Rattle.price_list.proofs.SolverLaws.{pair-adds, allowed-adds, row-prices-held, column-prices-held}
 
 -- the numbers of a line, of n rows

@@ -1,5 +1,2 @@
-pub mod Listed
-pub mod Lines
-pub mod List
-pub mod Block
 pub mod Report
+pub mod Word

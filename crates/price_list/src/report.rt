@@ -1,11 +1,9 @@
 // A file paired on buffers of the stack, and what is printed of it: the price list, the block, or the refusal.
 ghost use Rattle.price_list.specs.Report.{Reported};
-use crate::block;
-use crate::list;
-use crate::numbers;
+use crate::print;
 
-pub(crate) fn report(file: &[u8], out: &mut [u8]) -> usize
-    ensures { λ r. ⌜ Reported (now (file .entry)) (now (out .entry)) r (now (out .exit)) ⌝ }
+pub(crate) fn report(short: bool, file: &[u8], out: &mut [u8]) -> usize
+    ensures { λ r. ⌜ Reported short (now (file .entry)) (now (out .entry)) r (now (out .exit)) ⌝ }
 {
     let mut costs = [0i32; 4096];
     let mut mask = [0u8; 4096];
@@ -27,9 +25,11 @@ pub(crate) fn report(file: &[u8], out: &mut [u8]) -> usize
     let mut huts = [0u16; 64];
     storm_case::huts_of(file, &mut huts);
     if pairs.number == 0 {
-        let all_rows = numbers::sum(pairs.n, &row_prices);
-        let all_events = numbers::sum(pairs.n, &column_prices);
-        return list::put_list(
+        let all_rows = listing::sum(pairs.n, &row_prices);
+        let all_events = listing::sum(pairs.n, &column_prices);
+        return print::put_list(
+            short,
+            file,
             &huts,
             pairs.n,
             pairs.window,
@@ -46,13 +46,15 @@ pub(crate) fn report(file: &[u8], out: &mut [u8]) -> usize
         );
     }
     if pairs.number == 6 {
-        return block::put_block(
-            out,
+        return print::put_block(
+            file,
+            &huts,
             pairs.n,
             pairs.window,
             pairs.block_rows,
             pairs.block_columns,
-            &huts,
+            &mask,
+            out,
         );
     }
     text::put_refusal(out, 0, pairs.number, pairs.place)

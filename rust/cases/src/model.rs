@@ -36,17 +36,21 @@ pub struct Accepted {
     pub costs: Vec<i32>,
     pub mask: Vec<u8>,
     pub huts: Vec<u16>,
+    pub fragments: Vec<Fragment>,
+    pub events: Vec<Event>,
 }
 
-struct Fragment {
-    hut: u16,
-    area: u16,
-    clock: u32,
+#[derive(Debug, Clone, PartialEq, Eq)]
+pub struct Fragment {
+    pub hut: u16,
+    pub area: u16,
+    pub clock: u32,
 }
 
-struct Event {
-    area: u16,
-    clock: u32,
+#[derive(Debug, Clone, PartialEq, Eq)]
+pub struct Event {
+    pub area: u16,
+    pub clock: u32,
 }
 
 fn body_length(kind: u8) -> Option<usize> {
@@ -112,7 +116,7 @@ pub fn read(file: &[u8]) -> Result<Accepted, Refusal> {
                 if next < file.len() {
                     return Err(Refusal { number: BYTES_AFTER, place: next });
                 }
-                return Ok(accepted(window, &fragments, &events));
+                return Ok(accepted(window, fragments, events));
             }
         }
         if fragments.len() > n || events.len() > n {
@@ -122,15 +126,15 @@ pub fn read(file: &[u8]) -> Result<Accepted, Refusal> {
     }
 }
 
-fn accepted(window: u32, fragments: &[Fragment], events: &[Event]) -> Accepted {
+fn accepted(window: u32, fragments: Vec<Fragment>, events: Vec<Event>) -> Accepted {
     let (mut costs, mut mask) = (vec![], vec![]);
-    for row in fragments {
-        for column in events {
+    for row in &fragments {
+        for column in &events {
             let difference = row.clock.abs_diff(column.clock);
             let allowed = row.area == column.area && difference <= window;
             costs.push(if allowed { difference as i32 } else { 0 });
             mask.push(allowed as u8);
         }
     }
-    Accepted { n: fragments.len(), window, costs, mask, huts: fragments.iter().map(|row| row.hut).collect() }
+    Accepted { n: fragments.len(), window, costs, mask, huts: fragments.iter().map(|row| row.hut).collect(), fragments, events }
 }

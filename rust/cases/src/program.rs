@@ -8,9 +8,9 @@ use std::process::{Command, Stdio};
 /// So many failures are printed whole.
 const PRINTED: usize = 5;
 
-/// What the program prints, where it is handed the file as it is, or byte by byte.
-fn printed(program: &str, file: &[u8], byte_by_byte: bool) -> Result<String, String> {
-    let mut program = Command::new("tools/x86-64").arg(program).stdin(Stdio::piped()).stdout(Stdio::piped()).spawn().map_err(|what| what.to_string())?;
+/// What the program prints with these words, where it is handed the file as it is, or byte by byte.
+fn printed(program: &str, words: &[&str], file: &[u8], byte_by_byte: bool) -> Result<String, String> {
+    let mut program = Command::new("tools/x86-64").arg(program).args(words).stdin(Stdio::piped()).stdout(Stdio::piped()).spawn().map_err(|what| what.to_string())?;
     let mut input = program.stdin.take().unwrap();
     // The program may stop reading after 4,096 bytes: then the pipe is closed, which is no failure.
     for part in file.chunks(if byte_by_byte { 1 } else { usize::MAX }) {
@@ -48,15 +48,18 @@ fn chosen(seed: u64) -> Vec<Vec<u8>> {
     all.into_iter().map(|drawn| drawn.bytes).collect()
 }
 
-/// Tries a program: `judge` is handed a file and what was printed of it, and says what outcome that is, or what is wrong with it. The
-/// last line is 'N passed, M failed'; any failure ends with exit status 1.
-pub fn try_program(program: &str, judge: impl Fn(&[u8], &str) -> Result<&'static str, String>) -> ! {
+/// Tries a program: `judge` is handed a file and what was printed of it, with no word and with each of the words, and says what outcome
+/// that is, or what is wrong with it. The last line is 'N passed, M failed'; any failure ends with exit status 1.
+pub fn try_program(program: &str, words: &[&str], judge: impl Fn(&[u8], &[String]) -> Result<&'static str, String>) -> ! {
     let seed = std::env::args().nth(1).map_or(1, |word| word.parse().expect("the seed is a number"));
     let (mut counts, mut failures) = (BTreeMap::new(), vec![]);
     for (number, file) in chosen(seed).iter().enumerate() {
         let ways: &[bool] = if number % 20 == 0 { &[false, true] } else { &[false] };
         for &byte_by_byte in ways {
-            match printed(program, file, byte_by_byte).and_then(|printed| judge(file, &printed)) {
+            let mut ways = vec![&[][..]];
+            ways.extend(words.chunks(1));
+            let texts: Result<Vec<_>, _> = ways.iter().map(|words| printed(program, words, file, byte_by_byte)).collect();
+            match texts.and_then(|texts| judge(file, &texts)) {
                 Ok(outcome) => *counts.entry(outcome).or_insert(0) += 1,
                 Err(what) => failures.push(format!("{what}; the file is {file:02x?}")),
             }

@@ -43,5 +43,5 @@ fn main() {
         println!("valley: libserbihun.a was not there to be linked, nothing is compared\n0 passed, 1 failed");
         std::process::exit(1);
     };
-    try_program("target/bin/valley", |file, printed| judge(file, printed, solver));
+    try_program("target/bin/valley", &[], |file, printed| judge(file, &printed[0], solver));
 }

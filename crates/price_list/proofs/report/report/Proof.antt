@@ -73,7 +73,7 @@ returns c =
     (put .put-list .ensures)
 
 put-block-requires : tie.Need-put-block-requires
-put-block-requires c κs = few-rows (answered (c .before .before .before .before .before) .pair-case .ensures) fresh-room
+put-block-requires c κs = few-rows (answered (c .before .before .before .before .before .before) .pair-case .ensures) fresh-room
 
 same-length-2 : tie.Need-same-length-2
 same-length-2 c = search needs
@@ -81,7 +81,7 @@ same-length-2 c = search needs
 returns-2 : tie.Need-returns-2
 returns-2 c =
     let put = c .before .before in
-    let none = put .before .before .before in
+    let none = put .before .before .before .before in
     let number = none .before .before .before in
     report-block (answered number .pair-case .ensures) (asked number .huts-of .ensures) (none .if2 .taken) (put .put-block .ensures)
 
