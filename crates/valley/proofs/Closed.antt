@@ -1,4 +1,5 @@
--- Theorems: there is one report of a file, and what the definitions compute is printed; closed with the laws of the solver's answers. No crate stands above a program, so this one file names the steps' proofs.
+-- There is one report of a file, and what the definitions compute is printed: closed with the laws of the solver's answers.
+-- No crate stands above a program, so this one file names the steps' proofs.
 use mathlib.Core.Path.{_≡_, subst}
 use mathlib.Core.List.{List}
 use mathlib.Core.Option.{some}
