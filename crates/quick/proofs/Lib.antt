@@ -8,6 +8,7 @@ pub mod Lowers
 pub mod Flips
 pub mod OpenColumns
 pub mod Cheapests
+pub mod Fills
 pub mod LineLaws
 pub mod Markings
 pub mod PathLaws

@@ -15,7 +15,6 @@ use ground::prices;
 use ground::run;
 use ground::run::Next;
 use ground::run::Run;
-use ground::sets;
 
 // The run, what the adjustments of this phase add up to, and the least key.
 pub(crate) struct State {
@@ -42,12 +41,12 @@ pub(crate) fn start(
     requires { ⌜ Starts n (now costs) (now mask) (now keys) (now «row_prices») (now «column_prices») (now star) (now owner) (now prime) (now cheapest) ⌝ }
     ensures { λ r. ⌜ Started n (now (costs .entry)) (now (mask .entry)) r (now (keys .exit)) (now («row_prices» .exit)) (now («column_prices» .exit)) (now (star .exit)) (now (owner .exit)) (now (prime .exit)) (now (cheapest .exit)) ⌝ }
 {
-    values::set_row_prices(n, costs, mask, row_prices);
+    keys::fill(n, costs, mask, keys, cheapest);
+    values::set_row_prices(n, costs, cheapest, row_prices);
     prices::clear_prices(column_prices);
-    stars::star_rows(n, costs, mask, row_prices, star, owner);
+    stars::star_rows(n, costs, mask, row_prices, cheapest, star, owner);
     stars::clear(n, prime);
     stars::clear(n, cheapest);
-    keys::fill(n, costs, mask, keys);
     let begun = run::begun();
     State {
         run: begun,
