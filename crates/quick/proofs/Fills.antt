@@ -1,7 +1,7 @@
 -- The table of keys, filled row by row, and what it says of a row that it is cheapest in a column: its price, and that no zero stands before.
 use mathlib.Core.Path.{_≡_, refl, sym, ap, _∙_}
 use mathlib.Core.Logic.{_≢_, inl, inr, dite}
-use mathlib.Core.Bool.{Bool, true, false, not, _&&_}
+use mathlib.Core.Bool.{Bool, true, false, _&&_}
 use mathlib.Core.List.{List}
 use Prim.Native.Nat.{ℕ, _+_, _*_, _≤_, _<_}
 use native.Mathlib.Decide.{ℕ-discrete}
@@ -18,7 +18,7 @@ use Rattle.lines.specs.Square.{cell, square, table}
 use Rattle.lines.proofs.Firsts.{any-is}
 use Rattle.lines.proofs.Leasts.{least-is}
 use Rattle.lines.proofs.Puts.{put2, put2-at, put2-off}
-use Rattle.lines.proofs.Signed.{signed, plus-parts, minus-parts, neg-parts}
+use Rattle.lines.proofs.Signed.{signed, plus-parts, minus-parts}
 use Rattle.lines.proofs.Squares.{place-in, place-back, cell-set, length-square, square-at, table-ext}
 use Rattle.lines.proofs.Tests.{T-true, T-false, T-or, by-cases, cases}
 use Rattle.steps.specs.Steps.{is-zero, row-price}

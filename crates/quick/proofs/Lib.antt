@@ -14,6 +14,8 @@ pub mod Markings
 pub mod PathLaws
 pub mod Starrings
 pub mod WayLaws
+pub mod TableLaws
+pub mod Resumes
 pub mod HeldLaws
 pub mod StepHeld
 pub mod ShownLaws
