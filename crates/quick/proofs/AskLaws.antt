@@ -20,7 +20,8 @@ use Rattle.quick.specs.Asks.{ForStep3, ForStep4, ForStep5, ForStep6}
 use Rattle.quick.specs.Shown.{Held, shown}
 use Rattle.quick.specs.declared.step.State.{State}
 use Rattle.quick.proofs.Choose.{some-open, least-found}
-use Rattle.quick.proofs.HeldLaws.{searching-at, above, safe, safe-during, names}
+use Rattle.quick.proofs.TableLaws.{above, safe}
+use Rattle.quick.proofs.HeldLaws.{searching-at, safe-during, names}
 use Rattle.quick.proofs.StepHeld.{walks, some-free}
 
 module _ (n : ℕ) (costs : List ℤ) (mask : List ℕ) (budget : ℕ) (s : State) (keys row-prices column-prices : List ℤ) (star owner prime cheapest : List ℕ) (key : List ℤ)
@@ -30,7 +31,7 @@ module _ (n : ℕ) (costs : List ℤ) (mask : List ℕ) (budget : ℕ) (s : Stat
 
   pub asks-3 : s .run .next ≡ Step3 → ForStep3 n keys row-prices column-prices star owner cheapest key
   asks-3 e = record {
-    safe = safe h (pos 0) (within-zero 1099511627776);
+    safe = safe (h .tabled) (pos 0) (within-zero 1099511627776);
     star-long = h .lines .star-long;
     owner-long = h .lines .owner-long;
     cheapest-long = h .cheapest-long;
@@ -45,7 +46,7 @@ module _ (n : ℕ) (costs : List ℤ) (mask : List ℕ) (budget : ℕ) (s : Stat
       record {
         safe = safe-during h d;
         names = names h d;
-        more = more-primes (h .kept) (ap view-next e);
+        more = more-primes (h .tabled .kept) (ap view-next e);
         star-long = h .lines .star-long;
         prime-long = h .lines .prime-long;
         key-long = h .key-long;
@@ -59,7 +60,7 @@ module _ (n : ℕ) (costs : List ℤ) (mask : List ℕ) (budget : ℕ) (s : Stat
       owner-long = h .lines .owner-long;
       prime-long = h .lines .prime-long;
     };
-    more = more-augmentations (h .kept) i j (ap view-next e);
+    more = more-augmentations (h .tabled .kept) i j (ap view-next e);
   }
 
   -- where step 6 adjusts, the least value is what the key holds less what has risen
@@ -68,22 +69,22 @@ module _ (n : ℕ) (costs : List ℤ) (mask : List ℕ) (budget : ℕ) (s : Stat
   adjusted e near ne =
       let d = searching-at h S.Step6 (ap view-next e) in
       let b = rw (d .risen-is) at (d .least) in
-      let most = h .frame .word .most in
-      let some = some-open 64 n (allows n mask) limit most (m .working) (s .run .rows) (s .run .columns) (d .rise) (above h) b near in
-      let found = least-found 64 n (allows n mask) limit most (m .working) (s .run .rows) (s .run .columns) (d .rise) (above h) b near in
-      rw (found ∙ ap (λ x. value-of 64 (s .best) -ℤ x) (sym (d .risen-is))) at (adjusts (h .kept) (ap view-next e) ne some)
+      let most = h .tabled .frame .word .most in
+      let some = some-open 64 n (allows n mask) limit most (m .working) (s .run .rows) (s .run .columns) (d .rise) (above (h .tabled)) b near in
+      let found = least-found 64 n (allows n mask) limit most (m .working) (s .run .rows) (s .run .columns) (d .rise) (above (h .tabled)) b near in
+      rw (found ∙ ap (λ x. value-of 64 (s .best) -ℤ x) (sym (d .risen-is))) at (adjusts (h .tabled .kept) (ap view-next e) ne some)
 
   pub asks-6 : s .run .next ≡ Step6 → ForStep6 n budget s row-prices column-prices
   asks-6 e = record {
-    spare = h .kept .spare;
+    spare = h .tabled .kept .spare;
     whole = λ near. names h (searching-at h S.Step6 (ap view-next e)) near .0;
     fits = λ near ne. adjusted e near ne .change;
     adjusts = λ near ne.
         let a = adjusted e near ne in
         record {
-          word = h .frame .word;
-          row-lines = h .kept .going .shape .row-prices;
-          column-lines = h .kept .going .shape .column-prices;
+          word = h .tabled .frame .word;
+          row-lines = h .tabled .kept .going .shape .row-prices;
+          column-lines = h .tabled .kept .going .shape .column-prices;
           back = a .back;
           lower = a .lower;
           higher = a .higher;

@@ -131,7 +131,7 @@ module _ (n columns : ℕ) (keys row-prices column-prices : List ℤ) where
     chosen-known i hi l e = x .done i hi .none-cheaper
 
     -- a cell's key is above that of the cheapest column, and that one is the key of its cell, or far
-    pub chosen-opens : Opens n columns keys row-prices column-prices key best
+    pub chosen-opens : Opens n 0 columns keys row-prices column-prices key best
     chosen-opens ok working told shut = (all, best-from 64 n ok limit beyond working (pos 0) (λ i hi t. x .low i hi) (x .hit) all)
       where
         all : Keys 64 n ok limit working 0 columns (pos 0) (λ i. getD key i (pos 0))

@@ -18,12 +18,13 @@ use Rattle.ground.proofs.Arms.{Coming}
 use Rattle.quick.specs.Asks.{WritesWorking}
 use Rattle.quick.specs.Shown.{Started, working-of, marks-of, Holds, Held, shown, Reached}
 use Rattle.quick.specs.declared.step.State.{State}
+use Rattle.quick.proofs.Resumes.{held-at-3}
 use Rattle.quick.proofs.ShownLaws.{shown-is}
-use Rattle.quick.proofs.HeldLaws.{within-more, row-small, column-small}
+use Rattle.quick.proofs.TableLaws.{within-more, row-small, column-small}
 
 pub good : {n : ℕ} {costs : List ℤ} {mask : List ℕ} {budget : ℕ} {m : Machine} {risen best : ℤ} {keys : List ℤ} {star owner prime cheapest : List ℕ} {key : List ℤ}
     → Held n costs mask budget m risen best keys star owner prime cheapest key → Good n mask budget m
-good {n} {costs} h = record { cost = cost-at n costs; frame = h .frame; kept = h .kept }
+good {n} {costs} h = record { cost = cost-at n costs; frame = h .tabled .frame; kept = h .tabled .kept }
 
 -- ---- between two steps
 
@@ -52,24 +53,18 @@ unfolding S.start
 held-started {n} {costs} {mask} {budget} f holds k s {keys} {star = star} {owner} {prime} {cheapest} {key} b long =
     let m = S.start n (allows n mask) (cost-at n costs) in
     let starred = sound-at k S.Step3 refl .0 in
-    let h : Held n costs mask budget m (s .risen) (s .best) keys star owner prime cheapest key = record {
-      frame = f;
-      holds = holds;
-      kept = k;
-      table = b .table;
-      lines = record {
-        star-long = b .star-long;
-        owner-long = b .owner-long;
-        prime-long = b .prime-long;
-        star-is = b .star-is;
-        owner-is = b .owner-is;
-        prime-is = λ i hi. b .no-prime i hi ∙ sym (find-prime (starred .shows) i (λ l. absurd (omega arith)) ∙ (let q : min n n ≡ n = omega arith in q));
-      };
-      key-long = long;
-      cheapest-long = b .cheapest-long;
-      known = λ i hi l f. absurd (omega (arith, b .none-known i hi));
-      searching = tt;
-    } in
+    let h : Held n costs mask budget m (s .risen) (s .best) keys star owner prime cheapest key =
+    held-at-3
+    (record { frame = f; holds = holds; kept = k; table = b .table })
+    (record {
+      star-long = b .star-long;
+      owner-long = b .owner-long;
+      prime-long = b .prime-long;
+      star-is = b .star-is;
+      owner-is = b .owner-is;
+      prime-is = λ i hi. b .no-prime i hi ∙ sym (find-prime (starred .shows) i (λ l. absurd (omega arith)) ∙ (let q : min n n ≡ n = omega arith in q));
+    })
+    long (b .cheapest-long) (b .none-known) (s .risen) (s .best) refl in
     let e = shown-is h (sym (b .begun)) (sym (b .row-prices-are)) (sym (b .column-prices-are)) in
     (rw e at h, e)
 
@@ -87,10 +82,10 @@ module _ {n : ℕ} {costs : List ℤ} {mask : List ℕ} {budget : ℕ} {m : Mach
       let h = x .held in
       record {
         costs-square = sc;
-        mask-square = h .frame .mask-square;
+        mask-square = h .tabled .frame .mask-square;
         working-square = sw;
-        row-lines = h .kept .going .shape .row-prices;
-        column-lines = h .kept .going .shape .column-prices;
-        row-within = λ i hi. within-more (omega arith) (row-small h i hi);
-        column-within = λ j hj. within-more (omega arith) (column-small h j hj);
+        row-lines = h .tabled .kept .going .shape .row-prices;
+        column-lines = h .tabled .kept .going .shape .column-prices;
+        row-within = λ i hi. within-more (omega arith) (row-small (h .tabled) i hi);
+        column-within = λ j hj. within-more (omega arith) (column-small (h .tabled) j hj);
       }

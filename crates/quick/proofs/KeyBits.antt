@@ -17,6 +17,9 @@ use Rattle.quick.proofs.Packs.{times-parts}
 pub back32 : (z : ℤ) → mag z < 2 ^ 31 → toZ w32 (ofZ w32 z) ≡ z
 back32 z h = toZ-ofZ (record { sfits = h })
 
+pub small32 : (z : ℤ) → mag z < 2 ^ 31 → Within 2147483648 z
+small32 z h = record { above = omega (signed, neg-parts (pos 2147483648), size z); below = omega (signed, size z) }
+
 pub wider : {z : ℤ} → Within 1099511627776 z → Within 140737488355328 z
 wider {z} w = record {
   above = omega (signed, w .above, neg-parts (pos 1099511627776), neg-parts (pos 140737488355328));

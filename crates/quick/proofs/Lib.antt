@@ -8,11 +8,14 @@ pub mod Lowers
 pub mod Flips
 pub mod OpenColumns
 pub mod Cheapests
+pub mod Fills
 pub mod LineLaws
 pub mod Markings
 pub mod PathLaws
 pub mod Starrings
 pub mod WayLaws
+pub mod TableLaws
+pub mod Resumes
 pub mod HeldLaws
 pub mod StepHeld
 pub mod ShownLaws

@@ -18,7 +18,7 @@ use Rattle.steps.proofs.Phase.{star-off}
 use Rattle.steps.proofs.Search.{time′, chained}
 use Rattle.quick.specs.Shown.{working-of, marks-of, Held, shown}
 use Rattle.quick.proofs.LineLaws.{marks-shown}
-use Rattle.quick.proofs.HeldLaws.{priced}
+use Rattle.quick.proofs.TableLaws.{priced}
 use Rattle.steps.specs.Steps as S
 use Rattle.steps.proofs.Path as Path
 
@@ -34,15 +34,15 @@ module _ {n : ℕ} {costs : List ℤ} {mask : List ℕ} {budget : ℕ} {m : Mach
       let w = cell (pos 0) n (m .working) i j in
       let c = cost-at n costs i j in
       cases (T-or (allows n mask i j))
-      (λ t. let e = priced h .equation i j hi hj t in
+      (λ t. let e = priced (h .tabled) .equation i j hi hj t in
       rw (T-true (allows n mask i j) t) (omega (signed, e, plus-parts (p +ℤ q) w, plus-parts p q, minus-parts c p, minus-parts (c -ℤ p) q)))
-      (λ t. rw (T-false (allows n mask i j) t) (priced h .none i j hi hj t))
+      (λ t. rw (T-false (allows n mask i j) t) (priced (h .tabled) .none i j hi hj t))
 
   working-shown : m .working ≡ working-of n costs mask (m .row-prices) (m .column-prices)
   unfolding working-of
   working-shown =
-      ext-getD (pos 0) (m .working) _ (h .kept .going .shape .working ∙ sym (length-square value n)) (λ q l.
-      let b : q < n * n = omega (arith, h .kept .going .shape .working) in
+      ext-getD (pos 0) (m .working) _ (h .tabled .kept .going .shape .working ∙ sym (length-square value n)) (λ q l.
+      let b : q < n * n = omega (arith, h .tabled .kept .going .shape .working) in
       let p = place-in n q b in
       let e = place-back n q in
       ap (λ x. getD (m .working) x (pos 0)) (sym e) ∙ cell-is _ _ (p .0) (p .1) ∙ sym (square-at (pos 0) value n _ _ (p .0) (p .1)) ∙ ap (λ x. getD (square value n) x (pos 0)) e)
@@ -58,7 +58,7 @@ module _ {n : ℕ} {costs : List ℤ} {mask : List ℕ} {budget : ℕ} {m : Mach
       marks-shown s.shows (λ i hi l. Path.star-off s.shows (time′ n (allows n mask) s) s.row (s .phase .matching) (chained n (allows n mask) s) i hi l) (h .lines)
 
   marks-are : m .marks ≡ marks-of n star prime
-  marks-are = go (m .run .next) (h .kept .going .sound .at-next)
+  marks-are = go (m .run .next) (h .tabled .kept .going .sound .at-next)
     where
       go : (x : S.Next) → Sound-at n (allows n mask) x m → m .marks ≡ marks-of n star prime
       go S.Step3 s = by-stars (s .0)

@@ -1,34 +1,33 @@
 -- One step of the code against one step of the machine: each way that the code goes leaves what the machine's step leaves.
 use mathlib.Core.Path.{_≡_, refl, sym, ap, _∙_}
 use mathlib.Core.Logic.{_≢_}
-use mathlib.Core.Bool.{Bool, true, false, not, cond}
+use mathlib.Core.Bool.{Bool, true, false, cond}
 use mathlib.Core.List.{List}
 use Prim.Native.Nat.{ℕ, _+_, _*_, _≤_, _<_}
 use native.Mathlib.Omega.{arith}
-use borrow.Author.Tests.{lt-ltb, le-ltb, ltb-false, eq-eqb, ne-eqb}
-use lib.Dec.{T, ltb}
+use borrow.Author.Tests.{lt-ltb, le-ltb, eq-eqb, ne-eqb}
+use lib.Dec.{ltb}
 use lib.IntN.{ℤ, pos, _+ℤ_, _-ℤ_}
-use lib.Signed.{ltZ, _≤ℤ_}
+use lib.Signed.{ltZ}
 use lib.ListN.{length, getD, set}
 use Rattle.lines.specs.Count.{count}
-use Rattle.lines.specs.Square.{cell, table}
+use Rattle.lines.specs.Square.{table}
 use Rattle.lines.specs.Sets.{has, with, rest}
 use Rattle.lines.proofs.Tests.{T-false, by-cases, clash}
-use Rattle.lines.proofs.Counts.{count-miss, count-ext}
+use Rattle.lines.proofs.Counts.{count-ext}
 use Rattle.lines.proofs.Sets.{ext, has-empty, has-rest, has-those, those-lt}
-use Rattle.lines.proofs.Signed.{signed, plus-parts, minus-parts, within-zero}
+use Rattle.lines.proofs.Signed.{signed, plus-parts, minus-parts}
 use Rattle.steps.specs.Lent.{allows}
 use Rattle.steps.specs.Steps.{Machine, machine, star-in-row, star-in-column, covering, reaching, adjusting, augmenting, to, followed, lowered, raised}
 use Rattle.steps.specs.Going.{Open, OpenZero, Starred, Search, Ready}
 use Rattle.steps.proofs.Adjusted.{raised-at}
 use Rattle.steps.proofs.Search.{begun}
 use Rattle.steps.proofs.Marks.{find-row}
-use Rattle.steps.proofs.Phase.{covers}
 use Rattle.ground.proofs.Arms.{arm-3, arm-4, arm-5, arm-6}
 use Rattle.ground.proofs.GoodLaws.{sound-at}
-use Rattle.quick.specs.Keys.{limit, pack, value-of, row-of, column-of, lesser, lowered-key, least-key}
+use Rattle.quick.specs.Keys.{limit, value-of, row-of, column-of, lesser, lowered-key, least-key}
 use Rattle.quick.specs.Best.{key-at, Best}
-use Rattle.quick.specs.Ways.{term-at, own-term, starred, Known, Opens, flipped, Follows}
+use Rattle.quick.specs.Ways.{term-at, starred, Known, Opens, flipped, Follows}
 use Rattle.quick.specs.Shown.{Lines, During, Held}
 use Rattle.quick.proofs.Choose.{zero-here, row-named, column-named}
 use Rattle.quick.proofs.Opens.{best-of, keys-covered, keys-opened}
@@ -38,7 +37,8 @@ use Rattle.quick.proofs.Adjusts.{keys-adjusted, best-adjusted}
 use Rattle.quick.proofs.Keyed.{keyed-none, keyed-above, keyed-zero, keyed-blocked, keyed-spent, keyed-adjusts}
 use Rattle.quick.proofs.LineLaws.{lines-primed, same-star, same-owner}
 use Rattle.quick.proofs.PathLaws.{path-follows, lines-flipped}
-use Rattle.quick.proofs.HeldLaws.{above, bounded, risen-small, told-at, shut-at, column-small, held-next}
+use Rattle.quick.proofs.TableLaws.{above, told-at, shut-at, told-own, shut-own, column-small, free-of}
+use Rattle.quick.proofs.HeldLaws.{bounded, risen-small, held-next}
 use Rattle.steps.specs.Steps as S
 
 module _ {n : ℕ} {costs : List ℤ} {mask : List ℕ} {budget : ℕ} {m : Machine} {risen best : ℤ} {keys : List ℤ} {star owner prime cheapest : List ℕ} {key : List ℤ}
@@ -62,11 +62,11 @@ module _ {n : ℕ} {costs : List ℤ} {mask : List ℕ} {budget : ℕ} {m : Mach
   module _ (e : m .run .next ≡ S.Step4) (d : During n ok m risen best key) where
     -- no zero
     pub none-made : (ltZ best limit ≡ false) → next ≡ machine (to S.Step6 (m .run)) (m .working) (m .marks) (m .row-prices) (m .column-prices)
-    none-made f = sym (arm-4 n ok budget m e (sym (keyed-none 64 n ok limit (h .frame .word .most) (m .working) (m .run) (d .rise) (above h) (least d) (m .marks) (limited d) f)))
+    none-made f = sym (arm-4 n ok budget m e (sym (keyed-none 64 n ok limit (h .tabled .frame .word .most) (m .working) (m .run) (d .rise) (above (h .tabled)) (least d) (m .marks) (limited d) f)))
 
     pub above-made : ltZ best limit ≡ true → ltZ risen (value-of 64 best) ≡ true → next ≡ machine (to S.Step6 (m .run)) (m .working) (m .marks) (m .row-prices) (m .column-prices)
     above-made f t =
-        sym (arm-4 n ok budget m e (sym (keyed-above 64 n ok limit (h .frame .word .most) (m .working) (m .run) (d .rise) (above h) (least d) (m .marks) f (rw (d .risen-is) at t))))
+        sym (arm-4 n ok budget m e (sym (keyed-above 64 n ok limit (h .tabled .frame .word .most) (m .working) (m .run) (d .rise) (above (h .tabled)) (least d) (m .marks) f (rw (d .risen-is) at t))))
 
     pub held-none : next ≡ machine (to S.Step6 (m .run)) (m .working) (m .marks) (m .row-prices) (m .column-prices)
         → Held n costs mask budget next risen best keys star owner prime cheapest key
@@ -93,18 +93,18 @@ module _ {n : ℕ} {costs : List ℤ} {mask : List ℕ} {budget : ℕ} {m : Mach
       j = column-of 64 best
 
       search : Search n ok (m .working) (m .marks) (m .run .rows) (m .run .columns)
-      search = sound-at (h .kept) S.Step4 e
+      search = sound-at (h .tabled .kept) S.Step4 e
 
       at : OpenZero n ok (m .working) (m .run .rows) (m .run .columns) i j
       at =
           let k = least d .hit near in
-          let r = row-named 64 n ok limit (h .frame .word .most) (m .working) (m .run .rows) (m .run .columns) (d .rise) (above h) (least d) near in
-          let c = column-named 64 n ok limit (h .frame .word .most) (m .working) (m .run .rows) (m .run .columns) (d .rise) (above h) (least d) near in
+          let r = row-named 64 n ok limit (h .tabled .frame .word .most) (m .working) (m .run .rows) (m .run .columns) (d .rise) (above (h .tabled)) (least d) near in
+          let c = column-named 64 n ok limit (h .tabled .frame .word .most) (m .working) (m .run .rows) (m .run .columns) (d .rise) (above (h .tabled)) (least d) near in
           rw (r, c) (record {
             row-below = k .row-below;
             column-below = k .in-row .column-below;
             is-open = k .in-row .is-open;
-            zero = zero-here 64 n ok limit (h .frame .word .most) (m .working) (m .run .rows) (m .run .columns) (d .rise) (above h) (least d) near z0;
+            zero = zero-here 64 n ok limit (h .tabled .frame .word .most) (m .working) (m .run .rows) (m .run .columns) (d .rise) (above (h .tabled)) (least d) near z0;
           })
 
       abbrev marked : List ℕ
@@ -118,7 +118,7 @@ module _ {n : ℕ} {costs : List ℤ} {mask : List ℕ} {budget : ℕ} {m : Mach
       lines = lines-primed search i j at (h .lines)
 
       zero-made : next ≡ machine (cond (ltb (star-in-row n marked i) n) (covering i (star-in-row n marked i) (m .run)) (reaching i j (m .run))) (m .working) marked (m .row-prices) (m .column-prices)
-      zero-made = sym (arm-4 n ok budget m e (sym (keyed-zero 64 n ok limit (h .frame .word .most) (m .working) (m .run) (d .rise) (above h) (least d) (m .marks) near z0)))
+      zero-made = sym (arm-4 n ok budget m e (sym (keyed-zero 64 n ok limit (h .tabled .frame .word .most) (m .working) (m .run) (d .rise) (above (h .tabled)) (least d) (m .marks) near z0)))
 
       -- in a row without a star
       pub reaches-made : n ≤ getD star i 0 → next ≡ machine (reaching i j (m .run)) (m .working) marked (m .row-prices) (m .column-prices)
@@ -151,9 +151,9 @@ module _ {n : ℕ} {costs : List ℤ} {mask : List ℕ} {budget : ℕ} {m : Mach
         unfolding covering lowered-key
         held-covers key′ long new =
             let k0 = keys-covered 64 n ok limit beyond (m .working) risen i (d .keys) in
-            let k1 = keys-opened 64 n ok limit beyond (m .working) risen {rows = with (m .run .rows) i} {columns = m .run .columns} {key = λ a. getD key a (pos 0)} {key′ = λ a. getD key′ a (pos 0)} {term = term} s l (λ a ha u t. told-at h risen s l a ha t) (λ a ha u t. shut-at h risen (risen-small h d) s l a ha t)
+            let k1 = keys-opened 64 n ok limit beyond (m .working) risen {rows = with (m .run .rows) i} {columns = m .run .columns} {key = λ a. getD key a (pos 0)} {key′ = λ a. getD key′ a (pos 0)} {term = term} s l (λ a ha u t. told-at (h .tabled) risen s l a ha t) (λ a ha u t. shut-at (h .tabled) risen (risen-small h d) s l a ha t)
             (λ a ha u. new a ha ∙ rw (T-false (has (with (m .run .rows) i) a) u)) k0 in
-            let k2 = keys-opened 64 n ok limit beyond (m .working) risen {rows = with (m .run .rows) i} {columns = m .run .columns} {key = λ a. getD key a (pos 0)} {key′ = λ a. lesser (getD key a (pos 0)) (term a)} {term = term} s l (λ a ha u t. told-at h risen s l a ha t) (λ a ha u t. shut-at h risen (risen-small h d) s l a ha t)
+            let k2 = keys-opened 64 n ok limit beyond (m .working) risen {rows = with (m .run .rows) i} {columns = m .run .columns} {key = λ a. getD key a (pos 0)} {key′ = λ a. lesser (getD key a (pos 0)) (term a)} {term = term} s l (λ a ha u t. told-at (h .tabled) risen s l a ha t) (λ a ha u t. shut-at (h .tabled) risen (risen-small h d) s l a ha t)
             (λ a ha u. refl) k0 in
             held-next h covers-made lines long (h .cheapest-long) (h .known) (record {
               rise = d .rise;
@@ -171,7 +171,7 @@ module _ {n : ℕ} {costs : List ℤ} {mask : List ℕ} {budget : ℕ} {m : Mach
   module _ (e : m .run .next ≡ S.Step6) (d : During n ok m risen best key) where
     pub blocked-made : ltZ best limit ≡ false → next ≡ machine (to S.NoPairing (m .run)) (m .working) (m .marks) (m .row-prices) (m .column-prices)
     blocked-made f =
-        sym (arm-6 n ok budget m e (sym (keyed-blocked 64 n ok limit (h .frame .word .most) (m .working) (m .run) (d .rise) (above h) (least d) budget (m .row-prices) (m .column-prices) (limited d) f)))
+        sym (arm-6 n ok budget m e (sym (keyed-blocked 64 n ok limit (h .tabled .frame .word .most) (m .working) (m .run) (d .rise) (above (h .tabled)) (least d) budget (m .row-prices) (m .column-prices) (limited d) f)))
 
     pub held-blocked : ltZ best limit ≡ false → Held n costs mask budget next risen best keys star owner prime cheapest key
     held-blocked f = held-next h (blocked-made f) (h .lines) (h .key-long) (h .cheapest-long) (h .known) tt
@@ -179,7 +179,7 @@ module _ {n : ℕ} {costs : List ℤ} {mask : List ℕ} {budget : ℕ} {m : Mach
     module _ (near : ltZ best limit ≡ true) where
       pub spent-made : m .run .adjustments ≡ budget → next ≡ machine (to S.Unfinished (m .run)) (m .working) (m .marks) (m .row-prices) (m .column-prices)
       spent-made q =
-          sym (arm-6 n ok budget m e (sym (keyed-spent 64 n ok limit (h .frame .word .most) (m .working) (m .run) (d .rise) (above h) (least d) budget (m .row-prices) (m .column-prices) near q)))
+          sym (arm-6 n ok budget m e (sym (keyed-spent 64 n ok limit (h .tabled .frame .word .most) (m .working) (m .run) (d .rise) (above (h .tabled)) (least d) budget (m .row-prices) (m .column-prices) near q)))
 
       pub held-spent : m .run .adjustments ≡ budget → Held n costs mask budget next risen best keys star owner prime cheapest key
       held-spent q = held-next h (spent-made q) (h .lines) (h .key-long) (h .cheapest-long) (h .known) tt
@@ -190,7 +190,7 @@ module _ {n : ℕ} {costs : List ℤ} {mask : List ℕ} {budget : ℕ} {m : Mach
       pub adjusts-made : m .run .adjustments ≢ budget
           → next ≡ machine (adjusting (m .run)) (followed n ok z (m .run .rows) (m .run .columns) (m .working)) (m .marks) (lowered z (m .run .rows) (m .row-prices)) (raised z (m .run .columns) (m .column-prices))
       adjusts-made q =
-          sym (arm-6 n ok budget m e (sym (keyed-adjusts 64 n ok limit (h .frame .word .most) (m .working) (m .run) (d .rise) (above h) (least d) budget (m .row-prices) (m .column-prices) near q)))
+          sym (arm-6 n ok budget m e (sym (keyed-adjusts 64 n ok limit (h .tabled .frame .word .most) (m .working) (m .run) (d .rise) (above (h .tabled)) (least d) budget (m .row-prices) (m .column-prices) near q)))
           ∙ ap (λ r. let x = value-of 64 best -ℤ r in
           machine (adjusting (m .run)) (followed n ok x (m .run .rows) (m .run .columns) (m .working)) (m .marks) (lowered x (m .run .rows) (m .row-prices)) (raised x (m .run .columns) (m .column-prices)))
           (sym (d .risen-is))
@@ -198,13 +198,13 @@ module _ {n : ℕ} {costs : List ℤ} {mask : List ℕ} {budget : ℕ} {m : Mach
       -- a column without a star is not covered, so it rises
       free-open : (j : ℕ) → j < n → n ≤ star-in-column n (m .marks) j → has (m .run .columns) j ≡ false
       free-open j hj bare =
-          let s : Search n ok (m .working) (m .marks) (m .run .rows) (m .run .columns) = sound-at (h .kept) S.Step6 e .0 in
+          let s : Search n ok (m .working) (m .marks) (m .run .rows) (m .run .columns) = sound-at (h .tabled .kept) S.Step6 e .0 in
           by-cases (has (m .run .columns) j)
           (λ y. let c = s .phase .crossed j hj (rw y tt) in absurd (omega (arith, c .0, find-row (s .shows) (s .row) (s .phase .matching) j hj, bare)))
           (λ y. y)
 
       free-raised : (j : ℕ) → j < n → n ≤ star-in-column n (m .marks) j → getD (raised z (m .run .columns) (m .column-prices)) j (pos 0) ≡ getD (m .column-prices) j (pos 0) +ℤ z
-      free-raised j hj bare = raised-at z (m .run .columns) (m .column-prices) j (omega (arith, hj, h .kept .going .shape .column-prices)) ∙ rw (free-open j hj bare)
+      free-raised j hj bare = raised-at z (m .run .columns) (m .column-prices) j (omega (arith, hj, h .tabled .kept .going .shape .column-prices)) ∙ rw (free-open j hj bare)
 
       known-risen : Known n (starred n owner) keys (lowered z (m .run .rows) (m .row-prices)) (raised z (m .run .columns) (m .column-prices)) cheapest
       known-risen =
@@ -224,8 +224,8 @@ module _ {n : ℕ} {costs : List ℤ} {mask : List ℕ} {budget : ℕ} {m : Mach
           held-next h (adjusts-made q) (h .lines) (h .key-long) (h .cheapest-long) known-risen (record {
             rise = _;
             risen-is = refl;
-            keys = rw (← rise) at (keys-adjusted 64 n ok limit (m .working) (m .run .rows) (m .run .columns) risen z (h .kept .going .shape .working) (d .keys));
-            least = rw (← rise) at (best-adjusted 64 n ok limit (m .working) (m .run .rows) (m .run .columns) risen z (h .kept .going .shape .working) (d .least));
+            keys = rw (← rise) at (keys-adjusted 64 n ok limit (m .working) (m .run .rows) (m .run .columns) risen z (h .tabled .kept .going .shape .working) (d .keys));
+            least = rw (← rise) at (best-adjusted 64 n ok limit (m .working) (m .run .rows) (m .run .columns) risen z (h .tabled .kept .going .shape .working) (d .least));
             free = d .free;
             free-below = d .free-below;
             bare = d .bare;
@@ -236,7 +236,7 @@ module _ {n : ℕ} {costs : List ℤ} {mask : List ℕ} {budget : ℕ} {m : Mach
 
   module _ (i j : ℕ) (e : m .run .next ≡ S.Step5 i j) where
     ready : Ready n ok (m .working) (m .marks) (m .run .rows) (m .run .columns) i j
-    ready = sound-at (h .kept) (S.Step5 i j) e
+    ready = sound-at (h .tabled .kept) (S.Step5 i j) e
 
     pub walks : Follows n prime n owner i j
     walks = path-follows ready (h .lines)
@@ -258,7 +258,7 @@ module _ {n : ℕ} {costs : List ℤ} {mask : List ℕ} {budget : ℕ} {m : Mach
 
   module _ (e : m .run .next ≡ S.Step3) where
     at-3 : Starred n ok (m .working) (m .marks) × (m .run .rows ≡ 0)
-    at-3 = sound-at (h .kept) S.Step3 e
+    at-3 = sound-at (h .tabled .kept) S.Step3 e
 
     -- what the arrays count is what the marks show
     columns-are : starred n owner ≡ S.star-columns n (m .marks)
@@ -290,14 +290,7 @@ module _ {n : ℕ} {costs : List ℤ} {mask : List ℕ} {budget : ℕ} {m : Mach
 
     -- a column without a star, by the marks and by the set
     free-column : count (λ a. ltb (getD star a 0) n) n ≢ n → (b : ℕ) × (b < n) × (n ≤ star-in-column n (m .marks) b)
-    free-column q =
-        let c = starred n owner in
-        let s = begun n ok {rows = m .run .rows} {columns = c} (at-3 .0) (at-3 .1) columns-are (λ x. q (stars-are ∙ x)) in
-        let few = covers (s .phase) in
-        let x = count-miss (has c) n (omega (arith, few, s .missing)) in
-        let f : ltb (star-in-column n (m .marks) (x .0)) n ≡ false =
-        ap (λ y. ltb y n) (sym (h .lines .owner-is (x .0) (x .1))) ∙ sym (has-those _ n (x .0) (x .1)) ∙ T-false _ (x .2) in
-        (x .0, x .1, ltb-false _ n f)
+    free-column q = free-of (begun n ok {rows = m .run .rows} {columns = starred n owner} (at-3 .0) (at-3 .1) columns-are (λ x. q (stars-are ∙ x)))
 
     pub some-free : count (λ a. ltb (getD star a 0) n) n ≢ n → rest n (starred n owner) ≢ 0
     some-free q none =
@@ -306,12 +299,12 @@ module _ {n : ℕ} {costs : List ℤ} {mask : List ℕ} {budget : ℕ} {m : Mach
         clash (has (rest n (starred n owner)) (f .0)) (has-rest n (starred n owner) (f .0) (f .1) ∙ rw bare) (rw (none, has-empty (f .0)))
 
     pub held-part : {cheapest′ : List ℕ} {key′ : List ℤ} (best′ : ℤ) → n ≤ length cheapest′ → n ≤ length key′ → count (λ a. ltb (getD star a 0) n) n ≢ n
-        → Opens n (starred n owner) keys (m .row-prices) (m .column-prices) key′ best′
+        → Opens n 0 (starred n owner) keys (m .row-prices) (m .column-prices) key′ best′
         → Known n (starred n owner) keys (m .row-prices) (m .column-prices) cheapest′
         → Held n costs mask budget next (pos 0) best′ keys star owner prime cheapest′ key′
     held-part {key′ = key′} best′ wide long q o w =
         let f = free-column q in
-        let x = o ok (m .working) (λ i j hi hj t. told-0 i j hi hj t) (λ i j hi hj t. shut-0 i j hi hj t) in
+        let x = o ok (m .working) (told-own (h .tabled)) (shut-own (h .tabled)) in
         let c = getD (m .column-prices) (f .0) (pos 0) in
         let same : c -ℤ pos 0 ≡ c = omega (signed, minus-parts c (pos 0)) in
         held-next h (part-made q) (h .lines) long wide w (record {
@@ -322,17 +315,5 @@ module _ {n : ℕ} {costs : List ℤ} {mask : List ℕ} {budget : ℕ} {m : Mach
           free = f .0;
           free-below = f .1;
           bare = f .2;
-          from = rw same (column-small h (f .0) (f .1));
+          from = rw same (column-small (h .tabled) (f .0) (f .1));
         })
-      where
-        told-0 : (i j : ℕ) → i < n → j < n → T (ok i j) → own-term n keys (m .row-prices) (m .column-prices) j i ≡ pack 64 (cell (pos 0) n (m .working) i j +ℤ pos 0) j i
-        told-0 i j hi hj t =
-            let q = getD (m .column-prices) j (pos 0) in
-            let e : q ≡ q -ℤ pos 0 = omega (signed, minus-parts q (pos 0)) in
-            ap (λ y. term-at n keys (m .row-prices) j y i) e ∙ told-at h (pos 0) j hj i hi t
-
-        shut-0 : (i j : ℕ) → i < n → j < n → T (not (ok i j)) → limit ≤ℤ own-term n keys (m .row-prices) (m .column-prices) j i
-        shut-0 i j hi hj t =
-            let q = getD (m .column-prices) j (pos 0) in
-            let e : q -ℤ pos 0 ≡ q = omega (signed, minus-parts q (pos 0)) in
-            rw e at (shut-at h (pos 0) (within-zero 549755813888) j hj i hi t)

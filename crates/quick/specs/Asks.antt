@@ -1,11 +1,11 @@
 -- What the functions ask of what they are handed.
 use mathlib.Core.Path.{_≡_}
 use mathlib.Core.Logic.{_≢_}
-use mathlib.Core.Bool.{true, false}
+use mathlib.Core.Bool.{true, false, _&&_}
 use mathlib.Core.List.{List}
 use Prim.Native.Nat.{ℕ, _+_, _*_, _^_, _≤_, _<_}
 use lib.Dec.{T, ltb}
-use lib.IntN.{ℤ, pos}
+use lib.IntN.{ℤ, pos, _-ℤ_}
 use lib.Signed.{ltZ, _≤ℤ_}
 use lib.ListN.{length, getD}
 use mir.Syntax.{w64}
@@ -16,7 +16,7 @@ use Rattle.lines.specs.Bounds.{Within}
 use Rattle.lines.specs.Count.{count}
 use Rattle.lines.specs.Sets.{has, rest}
 use Rattle.steps.specs.Lent.{allows, cost-at}
-use Rattle.steps.specs.Steps.{row-price, start}
+use Rattle.steps.specs.Steps.{is-zero, row-price, start}
 use Rattle.ground.specs.Square.{Square, InWord}
 use Rattle.ground.specs.Prices.{AdjustsPrices}
 use Rattle.ground.specs.Good.{ForStart, Frame, Kept}
@@ -63,23 +63,30 @@ Names n best = ltZ best limit ≡ true → (pos 0 ≤ℤ best) × (row-of 64 bes
 
 -- ---- lines
 
+-- no zero of a row with this price stands before a column
+abbrev pub NoneBefore : ℕ → List ℤ → List ℕ → ℕ → ℤ → ℕ → Type 0
+NoneBefore n costs mask row price column = (j : ℕ) → j < column → (allows n mask row j && is-zero (cost-at n costs row j -ℤ price)) ≡ false
+
 -- step 2 on costs: the prices of the rows are those of step 1
-pub record Stars (n : ℕ) (costs : List ℤ) (mask : List ℕ) (row-prices : List ℤ) (star owner : List ℕ) : Type 0 where
+pub record Stars (n : ℕ) (costs : List ℤ) (mask : List ℕ) (row-prices : List ℤ) (cheapest star owner : List ℕ) : Type 0 where
   pub most : n ≤ 64
   pub costs-square : Square n costs
   pub mask-square : Square n mask
   pub prices : row-prices ≡ table (row-price n (allows n mask) (cost-at n costs)) n
   pub small : (i : ℕ) → i < n → Within 2147483648 (row-price n (allows n mask) (cost-at n costs) i)
+  pub cheapest-long : n ≤ length cheapest
+  pub before : (i : ℕ) → i < n → NoneBefore n costs mask i (row-price n (allows n mask) (cost-at n costs) i) (getD cheapest i 0)
   pub star-long : n ≤ length star
   pub owner-long : n ≤ length owner
 
 -- one row of it
-pub record StarsRow (n : ℕ) (costs : List ℤ) (mask : List ℕ) (row : ℕ) (price : ℤ) : Type 0 where
+pub record StarsRow (n : ℕ) (costs : List ℤ) (mask : List ℕ) (row : ℕ) (price : ℤ) (from : ℕ) : Type 0 where
   pub most : n ≤ 64
   pub costs-square : Square n costs
   pub mask-square : Square n mask
   pub below : row < n
   pub small : Within 2147483648 price
+  pub before : NoneBefore n costs mask row price from
 
 -- one cell
 pub record CostsPrice (place : ℕ) (price : ℤ) (costs : List ℤ) (mask : List ℕ) : Type 0 where
@@ -99,6 +106,13 @@ pub record WritesMarks (n : ℕ) (star prime marks : List ℕ) : Type 0 where
   pub prime-long : n ≤ length prime
 
 -- ---- prices and working values
+
+-- a column of each row, whose cost is its price
+pub record PricesRows (n : ℕ) (costs : List ℤ) (cheapest : List ℕ) (row-prices : List ℤ) : Type 0 where
+  pub costs-square : Square n costs
+  pub row-lines : length row-prices ≡ n
+  pub cheapest-long : n ≤ length cheapest
+  pub below : (i : ℕ) → i < n → getD cheapest i 0 < n
 
 pub record WritesRow (n : ℕ) (costs : List ℤ) (mask : List ℕ) (row : ℕ) (price : ℤ) (column-prices working : List ℤ) : Type 0 where
   pub costs-square : Square n costs

@@ -1,4 +1,5 @@
 pub mod Keys
+pub mod Filled
 pub mod Best
 pub mod Shown
 pub mod Ways

@@ -89,12 +89,16 @@ Searching S.Unfinished n ok m risen best key = Unit
 abbrev pub Holds : {n : ℕ} {mask : List ℕ} {cost : ℕ → ℕ → ℤ} → Frame n mask cost → Type 0
 Holds {n} f = Bounds.limit n most-cost (f .row-bound) (f .column-bound) ≤ most-value
 
--- the machine m is what the code's state shows
-pub record Held (n : ℕ) (costs : List ℤ) (mask : List ℕ) (budget : ℕ) (m : Machine) (risen best : ℤ) (keys : List ℤ) (star owner prime cheapest : List ℕ) (key : List ℤ) : Type 0 where
+-- a run whose keys stand in a table
+pub record Tabled (n : ℕ) (costs : List ℤ) (mask : List ℕ) (budget : ℕ) (m : Machine) (keys : List ℤ) : Type 0 where
   pub frame : Frame n mask (cost-at n costs)
   pub holds : Holds frame
   pub kept : Kept frame budget m
   pub table : keys ≡ square (entry 64 (allows n mask) (cost-at n costs)) n
+
+-- the machine m is what the code's state shows
+pub record Held (n : ℕ) (costs : List ℤ) (mask : List ℕ) (budget : ℕ) (m : Machine) (risen best : ℤ) (keys : List ℤ) (star owner prime cheapest : List ℕ) (key : List ℤ) : Type 0 where
+  pub tabled : Tabled n costs mask budget m keys
   pub lines : Lines n (m .marks) star owner prime
   pub key-long : n ≤ length key
   pub cheapest-long : n ≤ length cheapest

@@ -13,6 +13,7 @@ use Rattle.lines.specs.Count.{count}
 use Rattle.lines.specs.Sets.{has, with, those}
 use Rattle.steps.specs.Steps.{run-with, to, covering, reaching, adjusting, lowered, raised}
 use Rattle.ground.specs.View.{view}
+use Rattle.ground.specs.declared.run.Run.{Run}
 use Rattle.quick.specs.Keys.{limit, pack, value-of, column-of, row-of, names-zero, less-prices, lesser, lowered-key, least-key}
 use Rattle.quick.specs.Best.{Keys, Best}
 use Rattle.steps.specs.Steps as S
@@ -34,13 +35,13 @@ pub record Goes (x : S.Next) (s r : State) : Type 0 where
 
 -- ---- step 3: with n stars all is paired; else the columns without a star open, at their prices
 
--- the columns below n but those of a set open: what the keys then tell, of any cells whose keys the terms are
-abbrev pub Opens : ℕ → ℕ → List ℤ → List ℤ → List ℤ → List ℤ → ℤ → Type 0
-Opens n columns keys row-prices column-prices key best =
+-- the columns below n but those of a set open, for the rows but those of a set: what the keys then tell, of any cells whose keys the terms are
+abbrev pub Opens : ℕ → ℕ → ℕ → List ℤ → List ℤ → List ℤ → List ℤ → ℤ → Type 0
+Opens n rows columns keys row-prices column-prices key best =
     (ok : ℕ → ℕ → Bool) (working : List ℤ)
     → ((i j : ℕ) → i < n → j < n → T (ok i j) → own-term n keys row-prices column-prices j i ≡ pack 64 (cell (pos 0) n working i j +ℤ pos 0) j i)
     → ((i j : ℕ) → i < n → j < n → T (not (ok i j)) → limit ≤ℤ own-term n keys row-prices column-prices j i)
-    → Keys 64 n ok limit working 0 columns (pos 0) (λ i. getD key i (pos 0)) × Best 64 n ok limit working 0 columns (pos 0) best
+    → Keys 64 n ok limit working rows columns (pos 0) (λ i. getD key i (pos 0)) × Best 64 n ok limit working rows columns (pos 0) best
 
 -- the columns that have a star; all others are free
 abbrev pub starred : ℕ → List ℕ → ℕ
@@ -68,7 +69,13 @@ module _ (n : ℕ) (s : State) (keys row-prices column-prices : List ℤ) (star 
   pub data Crossed (r : State) (cheapest′ : List ℕ) (key′ : List ℤ) : Type 0 where
     full : count (λ i. ltb (getD star i 0) n) n ≡ n → view (r .run) ≡ crossed S.Paired → cheapest′ ≡ cheapest → Crossed r cheapest′ key′
     part : count (λ i. ltb (getD star i 0) n) n ≢ n → view (r .run) ≡ crossed S.Step4 → r .risen ≡ pos 0
-        → Opens n (starred n owner) keys row-prices column-prices key′ (r .best) → Known n (starred n owner) keys row-prices column-prices cheapest′ → Crossed r cheapest′ key′
+        → Opens n 0 (starred n owner) keys row-prices column-prices key′ (r .best) → Known n (starred n owner) keys row-prices column-prices cheapest′ → Crossed r cheapest′ key′
+
+-- a run taken up in the midst of a phase: nothing has risen, and what is not covered is open
+pub record TakenUp (n : ℕ) (run : Run) (keys row-prices column-prices : List ℤ) (r : State) (key : List ℤ) : Type 0 where
+  pub same : view (r .run) ≡ view run
+  pub risen : r .risen ≡ pos 0
+  pub opens : Opens n (run .rows) (run .columns) keys row-prices column-prices key (r .best)
 
 -- ---- step 4
 

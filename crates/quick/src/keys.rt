@@ -1,14 +1,15 @@
 // Keys: a value, a column and a row in one number, in the order of value, then column, then row. A forbidden cell's key is far.
 ghost use mathlib.Core.Path.{_≡_};
 ghost use mathlib.Core.Bool.{true, cond};
-ghost use Prim.Native.Nat.{ℕ, _+_, _*_, _<_};
+ghost use Prim.Native.Nat.{ℕ, _+_, _*_, _≤_, _<_};
 ghost use lib.Dec.{eqb};
 ghost use lib.IntN.{pos};
 ghost use lib.Signed.{ltZ, _≤ℤ_};
 ghost use lib.ListN.{length, getD};
-ghost use Rattle.lines.specs.Square.{table, square, each-row};
+ghost use Rattle.lines.specs.Square.{table, square};
 ghost use Rattle.steps.specs.Lent.{allows, cost-at};
 ghost use Rattle.quick.specs.Asks.{Fills, Packs, LessPrices, Lowers};
+ghost use Rattle.quick.specs.Filled.{FilledRow, CheapestIn};
 ghost use Rattle.quick.specs.Keys.{pack as Keys·pack, value-of, column-of, row-of, entry as Keys·entry, names-zero, less-prices, lesser as Keys·lesser, lowered-key, least-key, far as Keys·far, limit};
 use ground::sets;
 
@@ -79,29 +80,39 @@ fn entry(cost: i32, byte: u8, column: usize, row: usize) -> i64
     far()
 }
 
-// The keys of the costs of one column, as a row of the square.
-fn fill_column(n: usize, costs: &[i32], mask: &[u8], column: usize, keys: &mut [i64])
-    requires { ⌜ Fills n (now costs) (now mask) (now keys) × (column < n) ⌝ }
-    ensures { λ _. ⌜ now (keys .exit) ≡ each-row n column (λ row x. Keys·entry 64 (allows n (now (mask .entry))) (cost-at n (now (costs .entry))) column row) (now (keys .entry)) ⌝ }
+// The keys of the costs of one row, each in its column of the table. Returns the first column in which the row is cheapest; n where none is allowed.
+fn fill_row(n: usize, costs: &[i32], mask: &[u8], row: usize, keys: &mut [i64]) -> usize
+    requires { ⌜ Fills n (now costs) (now mask) (now keys) × (row < n) ⌝ }
+    ensures { λ r. ⌜ FilledRow n (allows n (now (mask .entry))) (cost-at n (now (costs .entry))) row (now (keys .entry)) (now (keys .exit))
+        × CheapestIn n (allows n (now (mask .entry))) (cost-at n (now (costs .entry))) row r ⌝ }
 {
-    let start = column * n;
-    let mut row = 0;
-    while row < n {
-        let place = row * n + column;
-        keys[start + row] = entry(costs[place], mask[place], column, row);
-        row += 1;
-    }
-}
-
-// The keys of the costs, column by column.
-pub(crate) fn fill(n: usize, costs: &[i32], mask: &[u8], keys: &mut [i64])
-    requires { ⌜ Fills n (now costs) (now mask) (now keys) ⌝ }
-    ensures { λ _. ⌜ now (keys .exit) ≡ square (Keys·entry 64 (allows n (now (mask .entry))) (cost-at n (now (costs .entry)))) n ⌝ }
-{
+    let start = row * n;
+    let mut cheapest = n;
+    let mut least = far();
     let mut column = 0;
     while column < n {
-        fill_column(n, costs, mask, column, keys);
+        let place = start + column;
+        let here = entry(costs[place], mask[place], column, row);
+        keys[column * n + row] = here;
+        if here < least {
+            least = here;
+            cheapest = column;
+        }
         column += 1;
+    }
+    cheapest
+}
+
+// The keys of the costs, column by column, and where each row is cheapest.
+pub(crate) fn fill(n: usize, costs: &[i32], mask: &[u8], keys: &mut [i64], cheapest: &mut [usize])
+    requires { ⌜ Fills n (now costs) (now mask) (now keys) × (n ≤ length (now cheapest)) ⌝ }
+    ensures { λ _. ⌜ (now (keys .exit) ≡ square (Keys·entry 64 (allows n (now (mask .entry))) (cost-at n (now (costs .entry)))) n)
+        × ((i : ℕ) → i < n → CheapestIn n (allows n (now (mask .entry))) (cost-at n (now (costs .entry))) i (getD (now (cheapest .exit)) i 0)) ⌝ }
+{
+    let mut row = 0;
+    while row < n {
+        cheapest[row] = fill_row(n, costs, mask, row, keys);
+        row += 1;
     }
 }
 

@@ -1,6 +1,9 @@
 // Each row's cheapest column without a star, kept from phase to phase: these columns move together, so it is looked for anew only where it has got its star.
 ghost use mathlib.Core.Path.{_≡_};
-ghost use Rattle.quick.specs.Asks.{KeyAt, Searches, Chooses, OpensColumns};
+ghost use Prim.Native.Nat.{_≤_};
+ghost use lib.IntN.{pos};
+ghost use lib.ListN.{length};
+ghost use Rattle.quick.specs.Asks.{Safe, KeyAt, Searches, Chooses, OpensColumns};
 ghost use Rattle.quick.specs.Ways.{own-term, Cheapest, Known, Opens};
 use crate::keys;
 use ground::sets;
@@ -84,7 +87,7 @@ pub(crate) fn open_columns(
     key: &mut [i64],
 ) -> i64
     requires { ⌜ OpensColumns n columns (now keys) (now «row_prices») (now «column_prices») (now cheapest) (now key) ⌝ }
-    ensures { λ r. ⌜ Opens n columns (now (keys .entry)) (now («row_prices» .entry)) (now («column_prices» .entry)) (now (key .exit)) r
+    ensures { λ r. ⌜ Opens n 0 columns (now (keys .entry)) (now («row_prices» .entry)) (now («column_prices» .entry)) (now (key .exit)) r
         × Known n columns (now (keys .entry)) (now («row_prices» .entry)) (now («column_prices» .entry)) (now (cheapest .exit)) ⌝ }
 {
     let mut best = keys::far();
@@ -104,6 +107,38 @@ pub(crate) fn open_columns(
         key[row] = here;
         best = keys::lesser(best, here);
         row += 1;
+    }
+    best
+}
+
+// The same in the midst of a phase, when columns with a star may be open too: all that is not covered opens, column after column.
+pub(crate) fn open_uncovered(
+    n: usize,
+    rows: u64,
+    columns: u64,
+    keys: &[i64],
+    row_prices: &[i64],
+    column_prices: &[i64],
+    key: &mut [i64],
+) -> i64
+    requires { ⌜ Safe n (pos 0) (now keys) (now «row_prices») (now «column_prices») × (n ≤ length (now key)) ⌝ }
+    ensures { λ r. ⌜ Opens n rows columns (now (keys .entry)) (now («row_prices» .entry)) (now («column_prices» .entry)) (now (key .exit)) r ⌝ }
+{
+    keys::forget(key);
+    let mut best = keys::far();
+    let mut left = sets::uncovered_lines(n, columns);
+    while left != 0 {
+        let column = sets::lowest_line(left);
+        best = keys::lower(
+            n,
+            keys,
+            row_prices,
+            column,
+            column_prices[column],
+            rows,
+            key,
+        );
+        left = sets::without_lowest(left);
     }
     best
 }

@@ -29,13 +29,21 @@ fn costs_price(costs: &[i32], mask: &[u8], place: usize, price: i64) -> bool
     false
 }
 
-// The row's first allowed column that is not taken and costs its price, or n.
-fn free_zero(n: usize, costs: &[i32], mask: &[u8], row: usize, price: i64, taken: u64) -> usize
-    requires { ⌜ StarsRow n (now costs) (now mask) row price ⌝ }
+// The row's first allowed column that is not taken and costs its price, or n. No zero stands before `from`.
+fn free_zero(
+    n: usize,
+    costs: &[i32],
+    mask: &[u8],
+    row: usize,
+    price: i64,
+    taken: u64,
+    from: usize,
+) -> usize
+    requires { ⌜ StarsRow n (now costs) (now mask) row price from ⌝ }
     ensures { λ r. ⌜ r ≡ first (λ j. (allows n (now (mask .entry)) row j && is-zero (cost-at n (now (costs .entry)) row j -ℤ price)) && not (has taken j)) n ⌝ }
 {
     let start = row * n;
-    let mut column = 0;
+    let mut column = from;
     while column < n {
         if !lines::has(taken, column) {
             if costs_price(costs, mask, start + column, price) {
@@ -53,10 +61,11 @@ pub(crate) fn star_rows(
     costs: &[i32],
     mask: &[u8],
     row_prices: &[i64],
+    cheapest: &[usize],
     star: &mut [usize],
     owner: &mut [usize],
 )
-    requires { ⌜ Stars n (now costs) (now mask) (now «row_prices») (now star) (now owner) ⌝ }
+    requires { ⌜ Stars n (now costs) (now mask) (now «row_prices») (now cheapest) (now star) (now owner) ⌝ }
     ensures { λ _. ⌜ ((i : ℕ) → i < n → getD (now (star .exit)) i 0 ≡ star-in-row n (first-marks n (now (costs .entry)) (now (mask .entry))) i)
         × ((j : ℕ) → j < n → getD (now (owner .exit)) j 0 ≡ star-in-column n (first-marks n (now (costs .entry)) (now (mask .entry))) j) ⌝ }
 {
@@ -65,7 +74,7 @@ pub(crate) fn star_rows(
     let mut taken = 0u64;
     let mut row = 0;
     while row < n {
-        let column = free_zero(n, costs, mask, row, row_prices[row], taken);
+        let column = free_zero(n, costs, mask, row, row_prices[row], taken, cheapest[row]);
         if column < n {
             star[row] = column;
             owner[column] = row;

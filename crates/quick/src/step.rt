@@ -1,11 +1,13 @@
 // Document 01's steps on keys and lines, one function for each, and the run from step to step.
 ghost use mathlib.Core.Path.{_≡_};
+ghost use Prim.Native.Nat.{_≤_};
+ghost use lib.IntN.{pos};
 ghost use lib.ListN.{length};
 ghost use Rattle.lines.specs.Square.{table};
 ghost use Rattle.steps.specs.Steps.{augmenting};
 ghost use Rattle.ground.specs.View.{view};
-ghost use Rattle.quick.specs.Asks.{Starts, ForStep3, ForStep4, ForStep5, ForStep6};
-ghost use Rattle.quick.specs.Ways.{Crossed, Primed, flipped, Adjusted};
+ghost use Rattle.quick.specs.Asks.{Safe, Starts, ForStep3, ForStep4, ForStep5, ForStep6};
+ghost use Rattle.quick.specs.Ways.{TakenUp, Crossed, Primed, flipped, Adjusted};
 ghost use Rattle.quick.specs.Shown.{Started, Held, Turned, Reached, shown};
 use crate::keys;
 use crate::opening;
@@ -15,7 +17,6 @@ use ground::prices;
 use ground::run;
 use ground::run::Next;
 use ground::run::Run;
-use ground::sets;
 
 // The run, what the adjustments of this phase add up to, and the least key.
 pub(crate) struct State {
@@ -42,17 +43,45 @@ pub(crate) fn start(
     requires { ⌜ Starts n (now costs) (now mask) (now keys) (now «row_prices») (now «column_prices») (now star) (now owner) (now prime) (now cheapest) ⌝ }
     ensures { λ r. ⌜ Started n (now (costs .entry)) (now (mask .entry)) r (now (keys .exit)) (now («row_prices» .exit)) (now («column_prices» .exit)) (now (star .exit)) (now (owner .exit)) (now (prime .exit)) (now (cheapest .exit)) ⌝ }
 {
-    values::set_row_prices(n, costs, mask, row_prices);
+    keys::fill(n, costs, mask, keys, cheapest);
+    values::set_row_prices(n, costs, cheapest, row_prices);
     prices::clear_prices(column_prices);
-    stars::star_rows(n, costs, mask, row_prices, star, owner);
+    stars::star_rows(n, costs, mask, row_prices, cheapest, star, owner);
     stars::clear(n, prime);
     stars::clear(n, cheapest);
-    keys::fill(n, costs, mask, keys);
     let begun = run::begun();
     State {
         run: begun,
         risen: 0,
         best: 0,
+    }
+}
+
+// A run taken up at step 4, with what it has covered: keys and least key are made anew.
+pub(crate) fn take_up(
+    n: usize,
+    run: Run,
+    keys: &[i64],
+    row_prices: &[i64],
+    column_prices: &[i64],
+    key: &mut [i64],
+) -> State
+    requires { ⌜ Safe n (pos 0) (now keys) (now «row_prices») (now «column_prices») × (n ≤ length (now key)) ⌝ }
+    ensures { λ r. ⌜ TakenUp n run (now (keys .entry)) (now («row_prices» .entry)) (now («column_prices» .entry)) r (now (key .exit)) ⌝ }
+{
+    let best = opening::open_uncovered(
+        n,
+        run.rows,
+        run.columns,
+        keys,
+        row_prices,
+        column_prices,
+        key,
+    );
+    State {
+        run,
+        risen: 0,
+        best,
     }
 }
 

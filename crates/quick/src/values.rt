@@ -1,19 +1,14 @@
 // Working values by prices: the row minima that the steps begin with, and the values that the prices leave at the end.
 ghost use mathlib.Core.Path.{_≡_};
 ghost use mathlib.Core.Bool.{cond};
-ghost use Prim.Native.Nat.{ℕ, _<_};
 ghost use lib.IntN.{pos, _-ℤ_};
 ghost use lib.ListN.{getD};
 ghost use mir.Syntax.{w64};
 ghost use mir.Val.{SFits};
 ghost use Rattle.lines.specs.Square.{table, each-row};
-ghost use Rattle.lines.specs.Bounds.{Within};
 ghost use Rattle.steps.specs.Lent.{allows, cost-at};
-ghost use Rattle.steps.specs.Steps.{row-price};
-ghost use Rattle.ground.specs.Prices.{ForRowPrices};
 ghost use Rattle.quick.specs.Shown.{working-of};
-ghost use Rattle.quick.specs.Asks.{WritesRow, WritesWorking};
-use ground::prices;
+ghost use Rattle.quick.specs.Asks.{PricesRows, WritesRow, WritesWorking};
 
 pub(crate) fn difference(x: i64, y: i64) -> i64
     requires { ⌜ SFits w64 (x -ℤ y) ⌝ }
@@ -22,15 +17,15 @@ pub(crate) fn difference(x: i64, y: i64) -> i64
     x - y
 }
 
-// Step 1: the price of each row.
-pub(crate) fn set_row_prices(n: usize, costs: &[i32], mask: &[u8], row_prices: &mut [i64])
-    requires { ⌜ ForRowPrices n (now costs) (now mask) (now «row_prices») ⌝ }
-    ensures { λ _. ⌜ (now («row_prices» .exit) ≡ table (row-price n (allows n (now (mask .entry))) (cost-at n (now (costs .entry)))) n)
-        × ((i : ℕ) → i < n → Within 2147483648 (row-price n (allows n (now (mask .entry))) (cost-at n (now (costs .entry))) i)) ⌝ }
+// Step 1: the price of each row is its cost where it is cheapest.
+pub(crate) fn set_row_prices(n: usize, costs: &[i32], cheapest: &[usize], row_prices: &mut [i64])
+    requires { ⌜ PricesRows n (now costs) (now cheapest) (now «row_prices») ⌝ }
+    ensures { λ _. ⌜ now («row_prices» .exit) ≡ table (λ i. cost-at n (now (costs .entry)) i (getD (now (cheapest .entry)) i 0)) n ⌝ }
 {
     let mut row = 0;
     while row < n {
-        row_prices[row] = prices::price_of_row(n, costs, mask, row);
+        let place = row * n + cheapest[row];
+        row_prices[row] = costs[place] as i64;
         row += 1;
     }
 }

@@ -1,5 +1,5 @@
 -- `stars::free_zero` looks from column to column (`Missed`).
-use mathlib.Core.Path.{sym, _∙_}
+use mathlib.Core.Path.{sym, ap, _∙_}
 use mathlib.Core.Logic.{⊎-elim}
 use mathlib.Core.Bool.{not, _&&_, and-false}
 use Prim.Native.Nat.{_+_, _*_, _-_, _<_}
@@ -11,25 +11,30 @@ use mir.Val.{toZ, ofZ}
 use mir.Facts.{toZ-ofZ}
 use Rattle.lines.specs.Sets.{has}
 use Rattle.lines.proofs.Squares.{place-lt}
-use Rattle.lines.proofs.Loops.{Missed, missed-none, missed-more, missed-hit, missed-all}
+use Rattle.lines.proofs.Loops.{Missed, missed-more, missed-hit, missed-all}
 use Rattle.steps.specs.Lent.{allows, cost-at}
 use Rattle.steps.specs.Steps.{is-zero}
+use Rattle.quick.specs.Asks.{NoneBefore}
 use borrow.Author.Needs.{needs}
 use Rattle.quick.proofs.stars.free_zero.Statement.{statement}
 use Rattle.quick.proofs.stars.free_zero.Tie as tie
 
 abbrev Inv-loop : tie.InvT-loop
-Inv-loop n costs mask row price taken start column₀ column =
+Inv-loop n costs mask row price taken from start column₀ column =
     Missed (λ j. (allows n mask row j && is-zero (cost-at n costs row j -ℤ toZ w64 price)) && not (has taken j)) column
 
 abbrev μ-loop : tie.MeasureT-loop
-μ-loop n costs mask row price taken start column₀ column = n - column
+μ-loop n costs mask row price taken from start column₀ column = n - column
 
 mul-start : tie.Need-mul-start Inv-loop μ-loop
 mul-start c = omega (arith, place-lt (c .before .args .n) (c .before .args .row) 0 (omega arith) (omega arith))
 
 loop-holds : tie.Need-loop-holds Inv-loop μ-loop
-loop-holds c = missed-none
+loop-holds c =
+    let s = c .before in
+    let a = s .args in
+    let none : NoneBefore (a .n) (a .costs .now) (a .mask .now) (a .row) (toZ w64 (ofZ w64 (a .price))) (a .from) = rw (toZ-ofZ (s .fits .price)) (s .pre .before) in
+    record { missed = λ k l. ap (λ b. b && not (has (a .taken) k)) (none k l) }
 
 has-requires : tie.Need-has-requires Inv-loop μ-loop
 has-requires c κs = search needs

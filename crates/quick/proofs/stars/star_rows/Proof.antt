@@ -18,12 +18,12 @@ use Rattle.quick.proofs.stars.star_rows.Statement.{statement}
 use Rattle.quick.proofs.stars.star_rows.Tie as tie
 
 abbrev Inv-loop : tie.InvT-loop
-Inv-loop n costs mask row-prices star₀ owner₀ taken₀ row₀ star owner taken row =
+Inv-loop n costs mask row-prices cheapest star₀ owner₀ taken₀ row₀ star owner taken row =
     (row ≤ n) × Starring n (allows n mask) (square (excess n (allows n mask) (cost-at n costs)) n) star owner taken row
     × (length star ≡ length star₀) × (length owner ≡ length owner₀)
 
 abbrev μ-loop : tie.MeasureT-loop
-μ-loop n costs mask row-prices star₀ owner₀ taken₀ row₀ star owner taken row = n - row
+μ-loop n costs mask row-prices cheapest star₀ owner₀ taken₀ row₀ star owner taken row = n - row
 
 -- ---- places: what was called before, back to the start, and the turn
 
@@ -34,7 +34,7 @@ abbrev stars : tie.After-clear2 Inv-loop μ-loop → tie.After-clear Inv-loop μ
 stars c = c .before .before .before .before
 
 abbrev start : tie.After-slice-known4 Inv-loop μ-loop → tie.Start Inv-loop μ-loop
-start c = stars (owners c) .before .before .before .before .before
+start c = stars (owners c) .before .before .before .before .before .before
 
 abbrev turn : tie.After-free-zero-arg Inv-loop μ-loop → tie.At-loop Inv-loop μ-loop
 turn c = c .before .before
@@ -74,26 +74,40 @@ price c =
     let i = turn c .loop .row in
     back64 (getD (s .args .row-prices .now) i (pos 0)) (c .free-zero-arg .given) ∙ ap (λ xs. getD xs i (pos 0)) (s .pre .prices) ∙ table-at (pos 0) _ (s .args .n) i (omega arith)
 
+mul-free-zero-2 : tie.Need-mul-free-zero-2 Inv-loop μ-loop
+mul-free-zero-2 c = omega (arith, start (turn c .before) .pre .most)
+
+shared-slice-read-free-zero : tie.Need-shared-slice-read-free-zero Inv-loop μ-loop
+shared-slice-read-free-zero c = omega (arith, start (turn (c .before) .before) .pre .cheapest-long)
+
 free-zero-requires : tie.Need-free-zero-requires Inv-loop μ-loop
 free-zero-requires c κs =
-    let pre = start (turn c .before) .pre in
-    let below = c .before .loop-test .taken in
-    record { most = pre .most; costs-square = pre .costs-square; mask-square = pre .mask-square; below = below; small = rw (price c) (pre .small _ below) }
+    let arg = c .before in
+    let pre = start (turn arg .before) .pre in
+    let below = arg .before .loop-test .taken in
+    record {
+      most = pre .most;
+      costs-square = pre .costs-square;
+      mask-square = pre .mask-square;
+      below = below;
+      small = rw (price arg) (pre .small _ below);
+      before = rw (price arg) (pre .before _ below);
+    }
 
 mul-star : tie.Need-mul-star Inv-loop μ-loop
-mul-star c = omega (arith, start (turn (c .before .before) .before) .pre .most)
+mul-star c = omega (arith, start (turn (c .before .before .before) .before) .pre .most)
 
 slice-write-star : tie.Need-slice-write-star Inv-loop μ-loop
-slice-write-star c = omega (arith, turn (c .before .before) .loop .inv .1 .star-long)
+slice-write-star c = omega (arith, turn (c .before .before .before) .loop .inv .1 .star-long)
 
 mul-owner : tie.Need-mul-owner Inv-loop μ-loop
-mul-owner c = omega (arith, start (turn (c .before .before) .before) .pre .most)
+mul-owner c = omega (arith, start (turn (c .before .before .before) .before) .pre .most)
 
 slice-write-owner : tie.Need-slice-write-owner Inv-loop μ-loop
-slice-write-owner c = omega (arith, turn (c .before .before) .loop .inv .1 .owner-long)
+slice-write-owner c = omega (arith, turn (c .before .before .before) .loop .inv .1 .owner-long)
 
 cover-requires : tie.Need-cover-requires Inv-loop μ-loop
-cover-requires c κs = omega (arith, start (turn (c .before .before) .before) .pre .most)
+cover-requires c κs = omega (arith, start (turn (c .before .before .before) .before) .pre .most)
 
 add-row : tie.Need-add-row Inv-loop μ-loop
 add-row c = search needs
@@ -104,7 +118,7 @@ loop-less c = search needs
 loop-again : tie.Need-loop-again Inv-loop μ-loop
 loop-again c =
     let found = c .before in
-    let arg = found .before in
+    let arg = found .before .before in
     let a = start (turn arg .before) .args in
     let l = turn arg .loop in
     let h = arg .before .loop-test .taken in
@@ -136,6 +150,8 @@ star-rows-spec =
     loop-holds
     mul-free-zero
     shared-slice-copy-out-free-zero
+    mul-free-zero-2
+    shared-slice-read-free-zero
     free-zero-requires
     mul-star
     slice-write-star
