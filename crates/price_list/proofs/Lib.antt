@@ -4,4 +4,6 @@ pub mod Theorems
 pub mod FitLaws
 pub mod ReportLaws
 pub mod Printed
+pub mod NearLaws
+pub mod Whole
 pub mod Closed

@@ -1,7 +1,7 @@
 -- What the solver's promise says of a pairing's prices: a chosen pair has no spare, no spare is below 0, and no sum of prices overflows.
 use mathlib.Core.Path.{_≡_, sym, _∙_}
 use mathlib.Core.Logic.{inl}
-use Prim.Native.Nat.{ℕ, _≤_, _<_}
+use Prim.Native.Nat.{ℕ, _+_, _*_, _≤_, _<_}
 use native.Mathlib.Omega.{arith}
 use lib.Dec.{T}
 use lib.IntN.{ℤ, pos, _+ℤ_, +ℤ-idr}
@@ -11,6 +11,7 @@ use mir.Syntax.{w64}
 use mir.Val.{SFits}
 use Rattle.lines.specs.Bounds.{Within}
 use Rattle.lines.proofs.Signed.{signed, plus-parts, neg-parts, within-fits}
+use Rattle.lines.proofs.Squares.{place-lt}
 use Rattle.lines.proofs.Sumsℤ.{le-sumℤ, sumℤ-within}
 use Rattle.assignment.specs.Problem.{column}
 use Rattle.assignment.specs.Prices.{PriceList}
@@ -53,18 +54,27 @@ module _ {t : Task} {before : Buffers} {a : Answer} {after : Buffers} (p : Promi
 
   -- ---- sums of prices
 
-  -- sums of at most 64 prices, each at most 258,000,000,000 away from 0
-  held : (f : ℕ → ℤ) (small : t .n ≤ 64) → ((i : ℕ) → i < t .n → Within (largest (t .n)) (f i)) → (k : ℕ) → k ≤ t .n → SFits w64 (sumℤ f k)
-  held f small within k h =
-      let wide : (i : ℕ) → i < k → Within 258_000_000_000 (f i) =
-      λ i l.
-      let w = within i (omega arith) in
+  -- each number of at most 64 rows is at most 258,000,000,000 away from 0
+  near : {z : ℤ} → t .n ≤ 64 → Within (largest (t .n)) z → Within 258_000_000_000 z
+  near small w =
       let parts = neg-parts (pos (largest (t .n))) in
-      record { above = omega (signed, w .above, parts, neg-parts (pos 258_000_000_000)); below = omega (signed, w .below) } in
-      within-fits w64 (sumℤ-within 258_000_000_000 f k wide) (omega arith)
+      record { above = omega (signed, w .above, parts, neg-parts (pos 258_000_000_000)); below = omega (signed, w .below) }
+
+  pub row-price-near : t .n ≤ 64 → (i : ℕ) → i < t .n → Within 258_000_000_000 (row-price-at after i)
+  row-price-near small i h = near small (p .limits ran .rows i h)
+
+  pub column-price-near : t .n ≤ 64 → (j : ℕ) → j < t .n → Within 258_000_000_000 (column-price-at after j)
+  column-price-near small j h = near small (p .limits ran .columns j h)
+
+  pub working-near : t .n ≤ 64 → (i j : ℕ) → i < t .n → j < t .n → Within 258_000_000_000 (working-at (t .n) after i j)
+  working-near small i j hi hj = near small (p .limits ran .cells (i * t .n + j) (place-lt (t .n) i j hi hj))
+
+  -- so 64 bits hold their sums
+  held : (f : ℕ → ℤ) → t .n ≤ 64 → ((i : ℕ) → i < t .n → Within 258_000_000_000 (f i)) → (k : ℕ) → k ≤ t .n → SFits w64 (sumℤ f k)
+  held f small within k h = within-fits w64 (sumℤ-within 258_000_000_000 f k (λ i l. within i (omega arith))) (omega arith)
 
   pub row-prices-held : t .n ≤ 64 → (k : ℕ) → k ≤ t .n → SFits w64 (sumℤ (row-price-at after) k)
-  row-prices-held small = held (row-price-at after) small (p .limits ran .rows)
+  row-prices-held small = held (row-price-at after) small (row-price-near small)
 
   pub column-prices-held : t .n ≤ 64 → (k : ℕ) → k ≤ t .n → SFits w64 (sumℤ (column-price-at after) k)
-  column-prices-held small = held (column-price-at after) small (p .limits ran .columns)
+  column-prices-held small = held (column-price-at after) small (column-price-near small)

@@ -9,7 +9,7 @@ use input::Input;
 use libc::STDERR_FILENO;
 use libc::STDOUT_FILENO;
 
-// An accepted file has at most 1,032 bytes, and a list of 64 rows takes some 310,000.
+// An accepted file has at most 1,032 bytes, and what is printed of a file at most 313,550.
 fn main() {
     let mut given = [0u8; 8];
     let length = os::arg(1, &mut given);
