@@ -14,8 +14,8 @@ use Rattle.lines.proofs.Signed as Z
 use Rattle.lines.proofs.Squares.{place-lt}
 use Rattle.lines.proofs.Sumsℤ.{sumℤ-within}
 use Rattle.storm_case.specs.Scan.{Scan}
-use Rattle.storm_case.specs.declared.pair.Pairs.{Pairs}
-use Rattle.storm_case.specs.Pair.{Loan, front, Solved}
+use Rattle.pairing.specs.declared.Pairs.{Pairs}
+use Rattle.pairing.specs.Pair.{Loan, front, Solved}
 use Rattle.text.specs.Numbers.{signed}
 use Rattle.text.proofs.Lengths.{signed-short}
 use Rattle.listing.proofs.Lengths.{Narrow, Sums}

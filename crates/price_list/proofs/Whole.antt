@@ -9,9 +9,9 @@ use lib.ListN.{length, take, length-append}
 use Rattle.lines.proofs.Tests.{cases, cond-ind}
 use Rattle.storm_case.specs.Numbers.{AreBytes}
 use Rattle.storm_case.specs.Scan.{Scan, Judged, more, refused, accepted, judged}
-use Rattle.storm_case.specs.declared.pair.Pairs.{Pairs}
-use Rattle.storm_case.specs.Pair.{Loan, fresh, Solved, PairPromise}
-use Rattle.storm_case.proofs.Fronts.{fresh-room}
+use Rattle.pairing.specs.declared.Pairs.{Pairs}
+use Rattle.pairing.specs.Pair.{Loan, fresh, Solved, PairPromise}
+use Rattle.pairing.proofs.Fronts.{fresh-room}
 use Rattle.storm_case.proofs.ScanLaws.{never-more, accepted-filled}
 use Rattle.storm_case.proofs.Decides.{refused-early}
 use Rattle.text.specs.Ascii.{ascii}
