@@ -12,7 +12,7 @@ use Rattle.records.specs.Records.{found}
 use Rattle.storm_case.specs.Case.{read, hut}
 use Rattle.storm_case.proofs.Only.{only-read}
 use Rattle.serbihun.specs.declared.case.Record.{Record}
-use Rattle.serbihun.specs.Bytes.{decoded}
+use Rattle.cost_bytes.specs.Bytes.{decoded}
 use Rattle.serbihun.specs.Case.{hut-number, record-at}
 
 -- the solver's answer, and every value, mark, column and price that was lent

@@ -1,7 +1,7 @@
 -- `solve_bytes` keeps the solver's promise on the costs that the bytes are: the costs that are read are those, or the answer is 1 to 3 for both.
 use mathlib.Core.Path.{sym}
 use lib.Seq.{length-take-le}
-use Rattle.serbihun.proofs.ByteLaws.{readable-fits, readable-few, read-promise}
+use Rattle.cost_bytes.proofs.ByteLaws.{readable-fits, readable-few, read-promise}
 use borrow.Author.Needs.{needs}
 use Rattle.serbihun.proofs.solve.solve_bytes.Statement.{statement}
 use Rattle.serbihun.proofs.solve.solve_bytes.Tie as tie

@@ -6,11 +6,11 @@ use lib.IntN.{pos}
 use mir.Syntax.{w32}
 use mir.Facts.{toZ-ofZ}
 use Rattle.lines.proofs.Loops.{Passed, passed-none, passed-store}
-use Rattle.serbihun.specs.Bytes.{twos-complement, cost-of}
-use Rattle.serbihun.proofs.ByteLaws.{filled-front}
+use Rattle.cost_bytes.specs.Bytes.{twos-complement, cost-of}
+use Rattle.cost_bytes.proofs.ByteLaws.{filled-front}
 use borrow.Author.Needs.{needs}
-use Rattle.serbihun.proofs.solve.decode.Statement.{statement}
-use Rattle.serbihun.proofs.solve.decode.Tie as tie
+use Rattle.cost_bytes.proofs.decode.Statement.{statement}
+use Rattle.cost_bytes.proofs.decode.Tie as tie
 
 abbrev Inv-loop : tie.InvT-loop
 Inv-loop cells bytes costs₀ cell₀ costs cell = (cell ≤ cells) × Passed (pos 0) (λ k x. cost-of bytes k) costs₀ costs cell

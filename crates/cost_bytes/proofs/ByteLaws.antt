@@ -24,7 +24,7 @@ use Rattle.steps.specs.Outcome.{judged, Outcome}
 use Rattle.steps.specs.Promise.{Promise}
 use Rattle.steps.proofs.Promised.{promised}
 use Rattle.rules.proofs.JudgeLaws.{rule-1, past-1, rule-2, past-2, rule-3}
-use Rattle.serbihun.specs.Bytes.{twos-complement, cost-of, decoded, readable}
+use Rattle.cost_bytes.specs.Bytes.{twos-complement, cost-of, decoded, readable}
 
 -- ---- two's complement
 

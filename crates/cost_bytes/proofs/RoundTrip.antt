@@ -12,8 +12,8 @@ use mir.Val.{SFits}
 use Rattle.lines.specs.Square.{table}
 use Rattle.lines.proofs.Signed.{signed, minus-parts}
 use Rattle.lines.proofs.Squares.{length-table, table-at}
-use Rattle.serbihun.specs.Bytes.{little-endian, twos-complement, cost-of, decoded}
-use Rattle.serbihun.proofs.ByteLaws.{low-half, high-half}
+use Rattle.cost_bytes.specs.Bytes.{little-endian, twos-complement, cost-of, decoded}
+use Rattle.cost_bytes.proofs.ByteLaws.{low-half, high-half}
 
 -- the 32 bits of a number in two's complement
 unfoldable pub bits : ℤ → ℕ

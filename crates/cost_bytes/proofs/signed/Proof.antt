@@ -4,9 +4,9 @@ use native.Mathlib.Omega.{arith}
 use borrow.Author.Needs.{needs}
 use mir.Syntax.{w32}
 use mir.Facts.{toZ-pos, toZ-ofZ}
-use Rattle.serbihun.proofs.ByteLaws.{low-half, high-half, less-fits, less-back, narrow-fits}
-use Rattle.serbihun.proofs.solve.signed.Statement.{statement}
-use Rattle.serbihun.proofs.solve.signed.Tie as tie
+use Rattle.cost_bytes.proofs.ByteLaws.{low-half, high-half, less-fits, less-back, narrow-fits}
+use Rattle.cost_bytes.proofs.signed.Statement.{statement}
+use Rattle.cost_bytes.proofs.signed.Tie as tie
 
 cast-result : tie.Need-cast-result
 cast-result c = search needs

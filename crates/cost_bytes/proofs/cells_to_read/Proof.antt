@@ -1,9 +1,9 @@
 -- `cells_to_read` counts the costs of n rows where the bytes are exactly theirs.
 use native.Mathlib.Nat.{mul-le-mul}
 use native.Mathlib.Omega.{arith}
-use Rattle.serbihun.proofs.ByteLaws.{readable-large, readable-none, readable-all}
-use Rattle.serbihun.proofs.solve.cells_to_read.Statement.{statement}
-use Rattle.serbihun.proofs.solve.cells_to_read.Tie as tie
+use Rattle.cost_bytes.proofs.ByteLaws.{readable-large, readable-none, readable-all}
+use Rattle.cost_bytes.proofs.cells_to_read.Statement.{statement}
+use Rattle.cost_bytes.proofs.cells_to_read.Tie as tie
 
 returns : tie.Need-returns
 returns c = readable-large _ _ (c .if1 .taken)
