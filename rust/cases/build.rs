@@ -7,8 +7,8 @@ fn main() {
     let project = Path::new(&env::var("CARGO_MANIFEST_DIR").unwrap()).join("../..").canonicalize().unwrap();
     let folder = project.join(env::var("SERBIHUN_LIB").unwrap_or_else(|_| "target/staticlib".to_string()));
     println!("cargo:rerun-if-changed={}", folder.join("libserbihun.a").display());
-    // the library is for x86-64
-    let links = env::var("CARGO_CFG_TARGET_ARCH").unwrap() == "x86_64";
+    // the kit's library is for x86-64; one that is named is for this machine
+    let links = env::var("CARGO_CFG_TARGET_ARCH").unwrap() == "x86_64" || env::var("SERBIHUN_LIB").is_ok();
     if links && folder.join("libserbihun.a").exists() {
         println!("cargo:rustc-cfg=library");
         println!("cargo:rustc-link-search=native={}", folder.display());

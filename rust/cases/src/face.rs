@@ -63,6 +63,31 @@ pub fn record(file: &[u8], at: usize) -> Record {
     }
 }
 
+/// What `serbihun_pair_case` answers.
+#[repr(C)]
+#[derive(Debug, Clone, Copy, PartialEq, Eq, Default)]
+pub struct Pairs {
+    pub number: u32,
+    pub place: usize,
+    pub n: usize,
+    pub window: u32,
+    pub total: i64,
+    pub block_rows: u64,
+    pub block_columns: u64,
+}
+
+/// What it is lent beside the file.
+pub struct Loan<'a> {
+    pub costs: &'a mut [i32],
+    pub mask: &'a mut [u8],
+    pub working: &'a mut [i64],
+    pub marks: &'a mut [u8],
+    pub columns: &'a mut [u16],
+    pub row_prices: &'a mut [i64],
+    pub column_prices: &'a mut [i64],
+    pub huts: &'a mut [u16],
+}
+
 /// What the solver says of a case, at a budget that is always enough: its number, the total, the columns.
 pub struct Solved {
     pub number: u32,
@@ -72,15 +97,25 @@ pub struct Solved {
 
 pub type Solver = fn(&model::Accepted) -> Solved;
 
+/// The library's functions. `solve_by_steps` solves the case of n rows that costs and mask hold, on buffers of its lengths.
+#[derive(Clone, Copy)]
+pub struct Library {
+    pub reader: Reader,
+    pub solve: Solver,
+    pub pair_case: fn(&[u8], Loan) -> Pairs,
+    pub solve_by_steps: fn(usize, Loan) -> Pairs,
+}
+
 /// The linked library; none where libserbihun.a was not there to be linked.
 #[cfg(not(library))]
-pub const LINKED: Option<(Reader, Solver)> = None;
+pub const LINKED: Option<Library> = None;
 #[cfg(library)]
-pub const LINKED: Option<(Reader, Solver)> = Some((linked::READER, linked::solve));
+pub const LINKED: Option<Library> =
+    Some(Library { reader: linked::READER, solve: linked::solve, pair_case: linked::pair_case, solve_by_steps: linked::solve_by_steps });
 
 #[cfg(library)]
 mod linked {
-    use super::{Case, Reader, Record, Solved};
+    use super::{Case, Loan, Pairs, Reader, Record, Solved};
     use crate::model::Accepted;
 
     pub const READER: Reader = Reader { read_case, hut, record };
@@ -106,6 +141,17 @@ mod linked {
         ) -> Case;
         fn serbihun_hut(file: *const u8, file_length: usize, row: usize) -> u32;
         fn serbihun_record(file: *const u8, file_length: usize, at: usize) -> Record;
+        fn serbihun_pair_case(
+            file: *const u8, file_length: usize, costs: *mut i32, costs_length: usize, mask: *mut u8, mask_length: usize,
+            working: *mut i64, working_length: usize, marks: *mut u8, marks_length: usize, columns: *mut u16, columns_length: usize,
+            row_prices: *mut i64, row_prices_length: usize, column_prices: *mut i64, column_prices_length: usize,
+            huts: *mut u16, huts_length: usize,
+        ) -> Pairs;
+        fn serbihun_solve_by_steps(
+            n: usize, costs: *const u8, costs_length: usize, mask: *const u8, mask_length: usize, budget: u32,
+            working: *mut i64, working_length: usize, marks: *mut u8, marks_length: usize, columns: *mut u16, columns_length: usize,
+            row_prices: *mut i64, row_prices_length: usize, column_prices: *mut i64, column_prices_length: usize,
+        ) -> Answer;
         fn serbihun_solve(
             n: usize, costs: *const u8, costs_length: usize, mask: *const u8, mask_length: usize, budget: u32,
             working: *mut i64, working_length: usize, marks: *mut u8, marks_length: usize, columns: *mut u16, columns_length: usize,
@@ -140,5 +186,33 @@ mod linked {
             )
         };
         Solved { number: answer.number, total: answer.total, columns }
+    }
+
+    #[rustfmt::skip]
+    pub fn pair_case(file: &[u8], loan: Loan) -> Pairs {
+        let Loan { costs, mask, working, marks, columns, row_prices, column_prices, huts } = loan;
+        unsafe {
+            serbihun_pair_case(
+                file.as_ptr(), file.len(), costs.as_mut_ptr(), costs.len(), mask.as_mut_ptr(), mask.len(),
+                working.as_mut_ptr(), working.len(), marks.as_mut_ptr(), marks.len(), columns.as_mut_ptr(), columns.len(),
+                row_prices.as_mut_ptr(), row_prices.len(), column_prices.as_mut_ptr(), column_prices.len(),
+                huts.as_mut_ptr(), huts.len(),
+            )
+        }
+    }
+
+    #[rustfmt::skip]
+    pub fn solve_by_steps(n: usize, loan: Loan) -> Pairs {
+        let Loan { costs, mask, working, marks, columns, row_prices, column_prices, .. } = loan;
+        let bytes: Vec<u8> = costs.iter().flat_map(|cost| cost.to_le_bytes()).collect();
+        let answer = unsafe {
+            serbihun_solve_by_steps(
+                n, bytes.as_ptr(), bytes.len(), mask.as_ptr(), mask.len(), (n * (n - 1) / 2) as u32,
+                working.as_mut_ptr(), working.len(), marks.as_mut_ptr(), marks.len(), columns.as_mut_ptr(), columns.len(),
+                row_prices.as_mut_ptr(), row_prices.len(), column_prices.as_mut_ptr(), column_prices.len(),
+            )
+        };
+        let Answer { number, total, block_rows, block_columns, .. } = answer;
+        Pairs { number, total, block_rows, block_columns, ..Pairs::default() }
     }
 }

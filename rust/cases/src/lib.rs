@@ -4,5 +4,6 @@ pub mod check;
 pub mod face;
 pub mod files;
 pub mod model;
+pub mod pair;
 pub mod program;
 pub mod random;

@@ -10,7 +10,13 @@ const PRINTED: usize = 5;
 
 /// What the program prints with these words, where it is handed the file as it is, or byte by byte.
 fn printed(program: &str, words: &[&str], file: &[u8], byte_by_byte: bool) -> Result<String, String> {
-    let mut program = Command::new("tools/x86-64").arg(program).args(words).stdin(Stdio::piped()).stdout(Stdio::piped()).spawn().map_err(|what| what.to_string())?;
+    let mut program = Command::new("tools/x86-64")
+        .arg(program)
+        .args(words)
+        .stdin(Stdio::piped())
+        .stdout(Stdio::piped())
+        .spawn()
+        .map_err(|what| what.to_string())?;
     let mut input = program.stdin.take().unwrap();
     // The program may stop reading after 4,096 bytes: then the pipe is closed, which is no failure.
     for part in file.chunks(if byte_by_byte { 1 } else { usize::MAX }) {

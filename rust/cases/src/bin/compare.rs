@@ -3,20 +3,23 @@
 //! With --reference the model stands in the library's place. The last line is 'N passed, M failed'; any failure gives exit status 1.
 use cases::by_hand;
 use cases::check::{Lent, Verdict};
-use cases::face::{Reader, Solver, LINKED, MODEL};
+use cases::face::{Library, Reader, LINKED, MODEL};
 use cases::files::{self, EXAMPLE, FAMILIES};
 use cases::model::{self, MOST, ROOM};
+use cases::pair;
 use cases::random::Random;
 use std::hint::black_box;
 use std::time::{Duration, Instant};
 
-/// The families, and behind them the files settled by hand, those of up to eight bytes 0 to 5, and the first 4,096 bytes of long files.
-const KINDS: usize = FAMILIES.len() + 3;
+/// The families, and behind them the files settled by hand, those of up to eight bytes 0 to 5, the first 4,096 bytes of long files, and
+/// the families' files paired in one call.
+const KINDS: usize = FAMILIES.len() + 4;
 const BY_HAND: usize = FAMILIES.len();
 const TINY: usize = FAMILIES.len() + 1;
 const FIRST: usize = FAMILIES.len() + 2;
-/// 0, then 20 to 26.
-const NUMBERS: usize = 8;
+const PAIRED: usize = FAMILIES.len() + 3;
+/// 0, then 20 to 26, and 6 of those that are paired.
+const NUMBERS: usize = 9;
 /// So many failures are printed whole.
 const PRINTED: usize = 5;
 
@@ -25,6 +28,7 @@ fn name(kind: usize) -> &'static str {
         BY_HAND => "settled by hand",
         TINY => "up to 8 bytes 0 to 5",
         FIRST => "first 4,096 bytes",
+        PAIRED => "paired in one call",
         _ => FAMILIES[kind],
     }
 }
@@ -48,6 +52,7 @@ impl Report {
         let tally = &mut self.tallies[kind];
         tally.runs += 1;
         match verdict {
+            Ok(6) => tally.answers[NUMBERS - 1] += 1,
             Ok(number) => tally.answers[number.saturating_sub(19) as usize] += 1,
             Err(what) => {
                 tally.failed += 1;
@@ -85,8 +90,9 @@ fn by_hand(reader: Reader, report: &mut Report) {
 }
 
 /// All families of a seed, those that are the same at every seed in the first round only.
-fn families(reader: Reader, seed: u64, round: u64, report: &mut Report) {
+fn families(reader: Reader, library: Option<Library>, seed: u64, round: u64, report: &mut Report) {
     let mut lent = Lent::new(seed + round);
+    let random = &mut Random::of(seed, round);
     for drawn in files::all(seed + round, false) {
         if round > 0 && files::is_fixed(drawn.family) {
             continue;
@@ -95,6 +101,10 @@ fn families(reader: Reader, seed: u64, round: u64, report: &mut Report) {
         report.enter(drawn.family, &drawn.bytes, lent.whole(reader, &drawn.bytes, drawn.room));
         if drawn.bytes.len() > ROOM {
             report.enter(FIRST, &drawn.bytes, first_decide(reader, &drawn.bytes));
+        }
+        if let Some(library) = library {
+            let lengths = pair::lengths(random);
+            report.enter(PAIRED, &drawn.bytes, pair::check(library, random, &drawn.bytes, lengths));
         }
     }
 }
@@ -142,7 +152,7 @@ fn median(mut turn: impl FnMut()) -> f64 {
 }
 
 /// Times the reader on the largest file, whose pairs are nearly all allowed, beside the solver on its case.
-fn time(reader: Reader, solver: Solver) {
+fn time(Library { reader, solve, .. }: Library) {
     let random = &mut Random::of(1, 0);
     let rows = (0..MOST).map(|hut| files::fragment(hut as u16, 1, random.below(1_000_000) as u32));
     let mut records: Vec<files::Piece> = rows.collect();
@@ -153,7 +163,7 @@ fn time(reader: Reader, solver: Solver) {
     let reads = median(|| _ = black_box((reader.read_case)(&file, &mut costs, &mut mask)));
     let by_model = median(|| _ = black_box((MODEL.read_case)(&file, &mut costs, &mut mask)));
     let huts = median(|| (0..MOST).for_each(|row| _ = black_box((reader.hut)(&file, row))));
-    let solves = median(|| _ = black_box(solver(&case)));
+    let solves = median(|| _ = black_box(solve(&case)));
     println!("the largest file, {} bytes, n = {MOST}: read_case {reads:.1} us, all huts {huts:.1} us", file.len());
     println!(
         "read_case takes {:.3} of the time that solving its case takes ({solves:.0} us), and {:.2} of the model's",
@@ -171,14 +181,12 @@ fn main() {
     let number =
         |at: usize, default: u64| words.get(at).map_or(default, |word| word.parse().expect("compare [--reference] [SEED [ROUNDS]]"));
     let (seed, rounds) = (number(0, 1), number(1, 20));
-    let reader = match (by_reference, LINKED) {
-        (true, _) => MODEL,
-        (false, Some((reader, _))) => reader,
-        (false, None) => {
-            println!("compare: libserbihun.a was not there to be linked, nothing is compared\n0 passed, 1 failed");
-            std::process::exit(1);
-        }
-    };
+    let library = if by_reference { None } else { LINKED };
+    if library.is_none() && !by_reference {
+        println!("compare: libserbihun.a was not there to be linked, nothing is compared\n0 passed, 1 failed");
+        std::process::exit(1);
+    }
+    let reader = library.map_or(MODEL, |library| library.reader);
 
     println!("the {} against the model; seeds {seed} to {}", if by_reference { "model itself" } else { "library" }, seed + rounds - 1);
     let start = Instant::now();
@@ -188,7 +196,7 @@ fn main() {
     std::thread::scope(|scope| {
         let share = |first: u64| {
             let mut report = Report::default();
-            (first..rounds).step_by(threads as usize).for_each(|round| families(reader, seed, round, &mut report));
+            (first..rounds).step_by(threads as usize).for_each(|round| families(reader, library, seed, round, &mut report));
             tiny(reader, first, threads, &mut report);
             report
         };
@@ -196,13 +204,21 @@ fn main() {
         shares.into_iter().for_each(|share| report.add(share.join().unwrap()));
     });
 
-    println!("{:<21} {:>8} | {:>6} {:>5} {:>7} {:>7} {:>7} {:>6} {:>6} {:>6} | failed", "family", "files", 0, 20, 21, 22, 23, 24, 25, 26);
+    println!(
+        "{:<21} {:>8} | {:>6} {:>5} {:>7} {:>7} {:>7} {:>6} {:>6} {:>6} {:>5} | failed",
+        "family", "files", 0, 20, 21, 22, 23, 24, 25, 26, 6
+    );
     for (kind, tally) in report.tallies.iter().enumerate() {
-        let [a, b, c, d, e, f, g, h] = tally.answers;
-        println!("{:<21} {:>8} | {a:>6} {b:>5} {c:>7} {d:>7} {e:>7} {f:>6} {g:>6} {h:>6} | {}", name(kind), tally.runs, tally.failed);
+        let [a, b, c, d, e, f, g, h, i] = tally.answers;
+        println!(
+            "{:<21} {:>8} | {a:>6} {b:>5} {c:>7} {d:>7} {e:>7} {f:>6} {g:>6} {h:>6} {i:>5} | {}",
+            name(kind),
+            tally.runs,
+            tally.failed
+        );
     }
-    if let (false, Some((reader, solver))) = (by_reference, LINKED) {
-        time(reader, solver);
+    if let Some(library) = library {
+        time(library);
     }
     println!("{:.0} s", start.elapsed().as_secs_f64());
     report.failures.iter().take(PRINTED).for_each(|failure| println!("{failure}"));

@@ -59,10 +59,8 @@ fn list(case: &Accepted, columns: &[usize], row_prices: &[i64], event_prices: &[
     if total != rows + events {
         return Err(format!("the prices {rows} + {events} are not the total {total}"));
     }
-    let head = format!(
-        "PRICE LIST\n{}; differences and prices in ms.\nA price may be negative; only sums of prices count.\n\n",
-        size(case)
-    );
+    let head =
+        format!("PRICE LIST\n{}; differences and prices in ms.\nA price may be negative; only sums of prices count.\n\n", size(case));
     let mut text = "  row    hut  event   difference =     row price +   event price\n".to_string();
     for row in 0..n {
         let (event, hut) = (columns[row], case.huts[row]);

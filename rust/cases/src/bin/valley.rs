@@ -39,9 +39,9 @@ fn judge(file: &[u8], printed: &str, solver: Solver) -> Result<&'static str, Str
 }
 
 fn main() {
-    let Some((_, solver)) = LINKED else {
+    let Some(library) = LINKED else {
         println!("valley: libserbihun.a was not there to be linked, nothing is compared\n0 passed, 1 failed");
         std::process::exit(1);
     };
-    try_program("target/bin/valley", &[], |file, printed| judge(file, &printed[0], solver));
+    try_program("target/bin/valley", &[], |file, printed| judge(file, &printed[0], library.solve));
 }
