@@ -1,7 +1,7 @@
 -- The rows and the events that may be paired with none, by the mask.
 use mathlib.Core.Bool.{Bool, cond}
 use mathlib.Core.List.{List, [], _++_}
-use Prim.Native.Nat.{ℕ, _≤_, _<_}
+use Prim.Native.Nat.{ℕ}
 use lib.Dec.{eqb}
 use lib.ListN.{getD}
 use Rattle.lines.specs.First.{any}
@@ -9,12 +9,6 @@ use Rattle.lines.specs.Square.{cell}
 use Rattle.text.specs.Ascii.{ascii}
 use Rattle.text.specs.Numbers.{decimal}
 use Rattle.entries.specs.Lines.{each-line}
-
--- a row and an event of at most 64
-pub record InSquare (n row event : ℕ) : Type 0 where
-  pub small : n ≤ 64
-  pub row-below : row < n
-  pub event-below : event < n
 
 unfoldable pub may-pair : ℕ → List ℕ → ℕ → ℕ → Bool
 may-pair n mask row event = eqb (cell 0 n mask row event) 1

@@ -2,10 +2,11 @@
 ghost use mathlib.Core.Path.{_≡_};
 ghost use Prim.Native.Nat.{_≤_, _<_};
 ghost use Rattle.text.specs.Text.{put};
-ghost use Rattle.case_words.specs.Unfit.{InSquare, may-pair, row-fits, event-fits, unfit-row, unfit-event, unfit-rows, unfit-events, unfit};
+ghost use Rattle.entries.specs.Places.{InList};
+ghost use Rattle.case_words.specs.Unfit.{may-pair, row-fits, event-fits, unfit-row, unfit-event, unfit-rows, unfit-events, unfit};
 
 fn may_pair(n: usize, mask: &[u8; 4096], row: usize, event: usize) -> bool
-    requires { ⌜ InSquare n row event ⌝ }
+    requires { ⌜ InList n row event ⌝ }
     ensures { λ r. ⌜ r ≡ may-pair n (now (mask .entry)) row event ⌝ }
 {
     mask[row * n + event] == 1

@@ -6,7 +6,8 @@ use native.Mathlib.Omega.{arith}
 use lib.ListN.{getD}
 use Rattle.lines.proofs.Squares.{place-in}
 use Rattle.lines.proofs.Bounds.{row-fits}
-use Rattle.listing.specs.Listed.{Listed, InList}
+use Rattle.entries.specs.Places.{InList}
+use Rattle.listing.specs.Listed.{Listed}
 
 pub record Place (n row event : ℕ) : Type 0 where
   pub price : event < 64

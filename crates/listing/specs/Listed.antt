@@ -12,12 +12,6 @@ pub record Listed (n : ℕ) (columns : List ℕ) : Type 0 where
   pub small : n ≤ 64
   pub below : (row : ℕ) → row < n → getD columns row 0 < n
 
--- a row and an event of at most 64
-pub record InList (n row event : ℕ) : Type 0 where
-  pub small : n ≤ 64
-  pub row-below : row < n
-  pub event-below : event < n
-
 -- the sum, where 64 bits hold it
 abbrev pub Sum : ℤ → ℤ → ℤ → Type 0
 Sum a b r = SFits w64 (a +ℤ b) → r ≡ a +ℤ b

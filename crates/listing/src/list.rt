@@ -2,7 +2,8 @@
 ghost use mathlib.Core.Path.{_≡_};
 ghost use Prim.Native.Nat.{_*_, _≤_, _<_};
 ghost use Rattle.text.specs.Text.{put};
-ghost use Rattle.listing.specs.Listed.{Listed, InList};
+ghost use Rattle.entries.specs.Places.{InList};
+ghost use Rattle.listing.specs.Listed.{Listed};
 ghost use Rattle.listing.specs.List.{head, pair-of, pair-lines, event-price-lines, total-line, pairing-lines};
 ghost use Rattle.listing.specs.List.{allowed-of, sum-words, reason, cell-line, every-pair, least-lines};
 

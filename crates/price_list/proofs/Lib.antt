@@ -1,9 +1,10 @@
 pub mod PromiseLaws
 pub mod SolverLaws
-pub mod Theorems
 pub mod FitLaws
+pub mod Theorems
 pub mod ReportLaws
 pub mod Printed
 pub mod NearLaws
 pub mod Whole
+pub mod WordLaws
 pub mod Closed

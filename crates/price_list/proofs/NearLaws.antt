@@ -1,5 +1,5 @@
 -- How far the printed numbers are from 0, and so how many signs they take: at most 13 in a column, and 15 for a sum.
-use mathlib.Core.Path.{_≡_, sym, ap, _∙_}
+use mathlib.Core.Path.{_≡_}
 use mathlib.Core.List.{List}
 use Prim.Native.Nat.{ℕ, _+_, _*_, _≤_, _<_}
 use native.Mathlib.Nat.{mul-le-mul-right}
@@ -20,7 +20,7 @@ use Rattle.text.specs.Numbers.{signed}
 use Rattle.text.proofs.Lengths.{signed-short}
 use Rattle.listing.proofs.Lengths.{Narrow, Sums}
 use Rattle.price_list.proofs.SolverLaws.{row-price-near, column-price-near, working-near}
-use Rattle.price_list.proofs.Theorems.{difference, spare, event-of, row-price, event-price, AddsUp}
+use Rattle.price_list.proofs.Theorems.{difference, spare, event-of, row-price, event-price, AddsUp, zero-number}
 
 -- farther from 0 at most
 wider : {near far : ℕ} {z : ℤ} → Within near z → near ≤ far → Within far z
@@ -47,21 +47,18 @@ module _ {file : List ℕ} {s : Scan} {before : Loan} {p : Pairs} {after : Loan}
   abbrev n : ℕ
   n = s .n
 
-  zero-number : y .solved .answer .number ≡ 0
-  zero-number = sym (ap (λ (q : Pairs). q .number) (y .solved .given)) ∙ paired
-
   row-near : (i : ℕ) → i < n → Within 258_000_000_000 (row-price after i)
   unfolding front
-  row-near i h = rw (getD-take n (after .rest .row-prices) i (pos 0) h) at (row-price-near (y .solved .solver) zero-number small i h)
+  row-near i h = rw (getD-take n (after .rest .row-prices) i (pos 0) h) at (row-price-near (y .solved .solver) (zero-number y small paired) small i h)
 
   event-near : (j : ℕ) → j < n → Within 258_000_000_000 (event-price after j)
   unfolding front
-  event-near j h = rw (getD-take n (after .rest .column-prices) j (pos 0) h) at (column-price-near (y .solved .solver) zero-number small j h)
+  event-near j h = rw (getD-take n (after .rest .column-prices) j (pos 0) h) at (column-price-near (y .solved .solver) (zero-number y small paired) small j h)
 
   spare-near : (i j : ℕ) → i < n → j < n → Within 258_000_000_000 (spare n after i j)
   unfolding front
   spare-near i j hi hj =
-      rw (getD-take (n * n) (after .rest .working) (i * n + j) (pos 0) (place-lt n i j hi hj)) at (working-near (y .solved .solver) zero-number small i j hi hj)
+      rw (getD-take (n * n) (after .rest .working) (i * n + j) (pos 0) (place-lt n i j hi hj)) at (working-near (y .solved .solver) (zero-number y small paired) small i j hi hj)
 
   all-near : (f : ℕ → ℤ) → ((i : ℕ) → i < n → Within 258_000_000_000 (f i)) → Within 16_512_000_000_000 (sumℤ f n)
   all-near f near = wider (sumℤ-within 258_000_000_000 f n near) (mul-le-mul-right 258_000_000_000 small)

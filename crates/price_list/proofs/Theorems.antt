@@ -11,7 +11,7 @@ use lib.Seq.{getD-take}
 use Rattle.lines.specs.Sum.{sumℤ}
 use Rattle.lines.specs.Square.{cell, square}
 use Rattle.lines.proofs.Tests.{eqb-yes}
-use Rattle.lines.proofs.Squares.{place-lt, length-square, getD-inside}
+use Rattle.lines.proofs.Squares.{place-lt, length-square, square-at}
 use Rattle.lines.proofs.Sumsℤ.{sumℤ-ext}
 use Rattle.steps.specs.Lent.{allows, cost-at}
 use Rattle.pairing.specs.declared.Pairs.{Pairs}
@@ -20,6 +20,7 @@ use Rattle.storm_case.specs.Case.{pair-cost, mask-byte, filled}
 use Rattle.pairing.specs.Pair.{Loan, enough-room, front, Solved, PairPromise}
 use Rattle.storm_case.proofs.ScanLaws.{never-more, accepted-filled, refused-some}
 use Rattle.listing.specs.Listed.{SumOf}
+use Rattle.price_list.proofs.FitLaws.{mask-at}
 use Rattle.price_list.proofs.SolverLaws.{pair-adds, allowed-adds, row-prices-held, column-prices-held}
 
 -- the numbers of a line, of n rows
@@ -55,7 +56,7 @@ module _ {file : List ℕ} {s : Scan} {before : Loan} {p : Pairs} {after : Loan}
   abbrev n : ℕ
   n = s .n
 
-  zero-number : y .solved .answer .number ≡ 0
+  pub zero-number : y .solved .answer .number ≡ 0
   zero-number = sym (ap (λ (q : Pairs). q .number) (y .solved .given)) ∙ paired
 
   -- the cells of the front are those of the buffers
@@ -66,11 +67,7 @@ module _ {file : List ℕ} {s : Scan} {before : Loan} {p : Pairs} {after : Loan}
       rw (y .costs) (List·getD-append (square (pair-cost file s) n) _ (pos 0) (i * n + j) inside)
 
   mask-same : (i j : ℕ) → i < n → j < n → cell 0 n (after .mask) i j ≡ cell 1 n (square (mask-byte file s) n) i j
-  unfolding filled
-  mask-same i j hi hj =
-      let inside : i * n + j < length (square (mask-byte file s) n) = omega (arith, place-lt n i j hi hj, length-square (mask-byte file s) n) in
-      rw (y .mask) (List·getD-append (square (mask-byte file s) n) _ 0 (i * n + j) inside
-      ∙ getD-inside 0 1 (square (mask-byte file s) n) (i * n + j) inside)
+  mask-same i j hi hj = mask-at y i j hi hj ∙ sym (square-at 1 (mask-byte file s) n i j hi hj)
 
   pairs-add : (row : ℕ) → row < n → difference n after row (event-of after row) ≡ row-price after row +ℤ event-price after (event-of after row)
   unfolding front

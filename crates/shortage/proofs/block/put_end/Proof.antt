@@ -20,7 +20,7 @@ returns : tie.Need-returns
 unfolding end-words ascii
 returns c =
     let s1 = c .before .before in
-    rw (eq-eqb _ _ (c .before .before .before .before .before .if1 .taken)) (s1 .put .ensures)
+    rw (eq-eqb _ _ (s1 .before .before .before .if1 .taken)) (s1 .put .ensures)
 
 slice-aggregate-put-counted : tie.Need-slice-aggregate-put-counted
 slice-aggregate-put-counted c = search needs
@@ -59,7 +59,7 @@ returns-2 c =
     let h1 : Holds _ _ _ _ _ = record { held = s1 .put-counted .ensures } in
     let h2 = holds-more h1 _ (s2 .put2 .ensures) in
     let h3 = holds-more h2 _ (s3 .put-counted2 .ensures) in
-    rw (ne-eqb _ _ (c .before .before .before .before .before .before .before .before .before .before .before .before .before .before .before .before .before .before .before .before .if1 .left)) (holds-more h3 _ (s4 .put3 .ensures) .held)
+    rw (ne-eqb _ _ (s1 .before .before .before .if1 .left)) (holds-more h3 _ (s4 .put3 .ensures) .held)
 
 pub put-end-spec : {M : Type 1} → statement M
 put-end-spec =

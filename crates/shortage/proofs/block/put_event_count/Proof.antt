@@ -1,4 +1,4 @@
--- `put_event_count` meets its contract, by the test.
+-- `put_event_count` meets its contract, by the count.
 use borrow.Author.Needs.{needs}
 use borrow.Author.Tests.{eq-eqb, ne-eqb}
 use Rattle.text.specs.Ascii.{ascii}

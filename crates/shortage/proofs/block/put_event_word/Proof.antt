@@ -24,7 +24,7 @@ returns c =
     let s2 = c .before .before in
     let s1 = s2 .before .before .before .before in
     let h1 : Holds _ _ _ _ _ = record { held = s1 .put .ensures } in
-    rw (c .before .before .before .before .before .before .before .before .before .if1 .taken) (holds-more h1 _ (s2 .put-decimal .ensures) .held)
+    rw (s1 .before .before .before .if1 .taken) (holds-more h1 _ (s2 .put-decimal .ensures) .held)
 
 slice-aggregate-put-2 : tie.Need-slice-aggregate-put-2
 slice-aggregate-put-2 c = search needs

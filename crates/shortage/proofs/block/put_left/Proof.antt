@@ -1,4 +1,4 @@
--- `put_left` meets its contract, by the test.
+-- `put_left` meets its contract, by what is left.
 use borrow.Author.Needs.{needs}
 use borrow.Author.Tests.{eq-eqb, ne-eqb}
 use Rattle.text.specs.Ascii.{ascii}
