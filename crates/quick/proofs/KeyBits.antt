@@ -55,23 +55,21 @@ module _ (z : ℤ) (fits : SFits w64 z) (up : pos 0 ≤ℤ z) where
 
 -- ---- packing
 
-module _ (x : ℤ) (c r : ℕ) (fits : SFits w64 x) (small : Within 2147483648 x) (hc : c < 64) (hr : r < 64) where
+-- a value and what stands below it, a place of 12 bits
+module _ (x : ℤ) (low : ℕ) (fits : SFits w64 x) (small : Within 2147483648 x) (few : low < 4096) where
   pub scaled-fits : SFits w64 (toZ w64 (ofZ w64 x) *ℤ pos 4096)
   scaled-fits = rw (toZ-ofZ fits) (omega (signed, times-parts x 4096, small .above, small .below, neg-parts (pos 2147483648)))
 
-  low-is : toZ w64 (c * 64 + r) ≡ pos (c * 64 + r)
+  low-is : toZ w64 low ≡ pos low
   low-is = toZ-pos w64 (omega arith)
 
   scaled-is : toZ w64 (ofZ w64 (toZ w64 (ofZ w64 x) *ℤ pos 4096)) ≡ x *ℤ pos 4096
   scaled-is = toZ-ofZ scaled-fits ∙ ap (λ y. y *ℤ pos 4096) (toZ-ofZ fits)
 
-  pub packed-fits : SFits w64 (toZ w64 (ofZ w64 (toZ w64 (ofZ w64 x) *ℤ pos 4096)) +ℤ toZ w64 (c * 64 + r))
-  packed-fits =
-      rw (scaled-is, low-is)
-      (omega (signed, times-parts x 4096, plus-parts (x *ℤ pos 4096) (pos (c * 64 + r)), small .above, small .below, neg-parts (pos 2147483648)))
+  pub packed-fits : SFits w64 (toZ w64 (ofZ w64 (toZ w64 (ofZ w64 x) *ℤ pos 4096)) +ℤ toZ w64 low)
+  packed-fits = rw (scaled-is, low-is) (omega (signed, times-parts x 4096, plus-parts (x *ℤ pos 4096) (pos low), small .above, small .below, neg-parts (pos 2147483648)))
 
-  pub packed-is : toZ w64 (ofZ w64 (toZ w64 (ofZ w64 (toZ w64 (ofZ w64 x) *ℤ pos 4096)) +ℤ toZ w64 (c * 64 + r))) ≡ pack 64 x c r
-  unfolding pack
+  pub packed-is : toZ w64 (ofZ w64 (toZ w64 (ofZ w64 (toZ w64 (ofZ w64 x) *ℤ pos 4096)) +ℤ toZ w64 low)) ≡ x *ℤ pos 4096 +ℤ pos low
   packed-is = toZ-ofZ packed-fits ∙ rw (scaled-is, low-is)
 
 -- ---- prices taken off
