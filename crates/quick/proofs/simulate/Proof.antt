@@ -93,7 +93,7 @@ same-length c =
     last c .before .before .before .before .working2 .given ∙ stars .before .before .before .working .given
 
 same-length-2 : tie.Need-same-length-2
-same-length-2 c = search needs
+same-length-2 c = c .before .before .marks .given
 
 same-length-3 : tie.Need-same-length-3
 same-length-3 c =
@@ -124,7 +124,7 @@ same-length-8 : tie.Need-same-length-8
 same-length-8 c = cheapest-2 (written (last c)) .cheapest2 .given ∙ cheapest-1 (ended (stars-3 c) .before) .cheapest .given
 
 same-length-9 : tie.Need-same-length-9
-same-length-9 c = search needs
+same-length-9 c = written (last c) .before .before .before .before .key .given
 
 returns : tie.Need-returns
 returns c =
