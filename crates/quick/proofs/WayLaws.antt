@@ -49,22 +49,23 @@ module _ (B : ℕ) (best risen : ℤ) where
 
 -- ---- a column's price less the rise
 
-module _ (p q : ℤ) (hp : mag p < 2 ^ 63) (hq : mag q < 2 ^ 63) (wp : Within 1099511627776 p) (wq : Within 1099511627776 q) where
-  price-is : toZ w64 (ofZ w64 p) -ℤ toZ w64 (ofZ w64 q) ≡ p -ℤ q
-  price-is = ap₂ _-ℤ_ (back64 p hp) (back64 q hq)
+pub bits-within : (L : ℕ) (z : ℤ) → mag z < 2 ^ 63 → Within L z → Within L (toZ w64 (ofZ w64 z))
+bits-within L z h w = rw (back64 z h) w
 
-  pub price-fits : SFits w64 (toZ w64 (ofZ w64 p) -ℤ toZ w64 (ofZ w64 q))
-  price-fits = rw price-is (omega (signed, minus-parts p q, wp .above, wp .below, wq .above, wq .below, neg-parts (pos 1099511627776)))
+-- two numbers far from the limits: their difference fits, and is far from them too
+module _ (x y : ℤ) (wx : Within 1099511627776 x) (wy : Within 1099511627776 y) where
+  pub less-fits : SFits w64 (x -ℤ y)
+  less-fits = omega (signed, minus-parts x y, wx .above, wx .below, wy .above, wy .below, neg-parts (pos 1099511627776))
 
-  module _ (x : ℤ) (hx : mag x < 2 ^ 63) (e : x ≡ toZ w64 (ofZ w64 p) -ℤ toZ w64 (ofZ w64 q)) where
-    pub price-told : toZ w64 (ofZ w64 x) ≡ p -ℤ q
-    price-told = back64 x hx ∙ e ∙ price-is
+  pub less-within : (r : ℤ) → mag r < 2 ^ 63 → r ≡ x -ℤ y → Within 140737488355328 (toZ w64 (ofZ w64 r))
+  less-within r h e = rw (back64 r h, e) (record {
+    above = omega (signed, minus-parts x y, wx .above, wy .below, neg-parts (pos 1099511627776), neg-parts (pos 140737488355328));
+    below = omega (signed, minus-parts x y, wx .below, wy .above, neg-parts (pos 1099511627776));
+  })
 
-    pub price-within : Within 140737488355328 (toZ w64 (ofZ w64 x))
-    price-within = rw price-told (record {
-      above = omega (signed, minus-parts p q, wp .above, wq .below, neg-parts (pos 1099511627776), neg-parts (pos 140737488355328));
-      below = omega (signed, minus-parts p q, wp .below, wq .above, neg-parts (pos 1099511627776));
-    })
+-- read back from the bits that hold them
+pub price-told : (p q x : ℤ) → mag p < 2 ^ 63 → mag q < 2 ^ 63 → mag x < 2 ^ 63 → x ≡ toZ w64 (ofZ w64 p) -ℤ toZ w64 (ofZ w64 q) → toZ w64 (ofZ w64 x) ≡ p -ℤ q
+price-told p q x hp hq hx e = back64 x hx ∙ e ∙ ap₂ _-ℤ_ (back64 p hp) (back64 q hq)
 
 -- ---- step 4's ways: the code's row and column are those that the key names
 

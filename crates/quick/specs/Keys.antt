@@ -5,6 +5,9 @@
 -- no key changes: what was taken off in this phase is kept in one number, `risen`, and each value is read less that. A column that opens lowers the keys of the
 -- uncovered rows to what they have in it: n comparisons for a prime, where the plain searches look at n * n cells.
 --
+-- A phase begins with the columns without a star open. They rise together, so a row's cheapest one stays so till it gets its star: it is kept from phase to phase, and
+-- only the rows that have lost theirs look anew.
+--
 -- N is the packing base, above every line.
 use mathlib.Core.Bool.{Bool, cond, not, _&&_}
 use Prim.Native.Nat.{ℕ, zero, suc, _+_, _*_, _/_, _%_}

@@ -1,6 +1,5 @@
 -- `simulate` comes to the end that the run's last state shows.
 use mathlib.Core.Path.{_∙_}
-use borrow.Author.Needs.{needs}
 use Rattle.quick.proofs.Comings.{held-started, came-to, write-asks}
 use Rattle.quick.proofs.simulate.Statement.{statement}
 use Rattle.quick.proofs.simulate.Tie as tie
@@ -58,7 +57,7 @@ start-requires c κs =
     let asks = p .asks in
     let grid = asks .grid in
     record {
-      fills = record { most = grid .word .most; costs-square = asks .costs-square; mask-square = grid .mask-square; keys-square = grid .working-square };
+      fills = record { most = grid .word .most; costs-square = asks .costs-square; mask-square = grid .mask-square; flags = p .frame .flags; keys-square = grid .working-square };
       rows = asks .rows;
       row-lines = asks .row-lines;
       column-lines = asks .column-lines;
@@ -93,7 +92,7 @@ same-length c =
     last c .before .before .before .before .working2 .given ∙ stars .before .before .before .working .given
 
 same-length-2 : tie.Need-same-length-2
-same-length-2 c = search needs
+same-length-2 c = c .before .before .marks .given
 
 same-length-3 : tie.Need-same-length-3
 same-length-3 c =
@@ -124,7 +123,7 @@ same-length-8 : tie.Need-same-length-8
 same-length-8 c = cheapest-2 (written (last c)) .cheapest2 .given ∙ cheapest-1 (ended (stars-3 c) .before) .cheapest .given
 
 same-length-9 : tie.Need-same-length-9
-same-length-9 c = search needs
+same-length-9 c = written (last c) .before .before .before .before .key .given
 
 returns : tie.Need-returns
 returns c =

@@ -14,6 +14,9 @@ start c = c .before .before .before .before .before .before .before .before .bef
 abbrev ended : tie.After-finish-arg2 → tie.After-simulate
 ended c = c .before .before .before .before .before .before .before .before .before .before .before .before
 
+abbrev prices : tie.After-finish-arg2 → tie.After-column-prices
+prices c = c .before .before .before .before .before .before .before
+
 -- ---- what each call asks
 
 slice-aggregate-simulate : tie.Need-slice-aggregate-simulate
@@ -51,19 +54,19 @@ finish-requires : tie.Need-finish-requires
 finish-requires c κs = let end = ended c in finish-asks _ _ _ _ _ (start (end .before) .pre) (end .simulate .ensures)
 
 same-length : tie.Need-same-length
-same-length c = search needs
+same-length c = prices (c .before .before .before) .before .before .before .before .working .given
 
 same-length-2 : tie.Need-same-length-2
-same-length-2 c = search needs
+same-length-2 c = prices (c .before .before .before) .before .before .before .marks .given
 
 same-length-3 : tie.Need-same-length-3
-same-length-3 c = search needs
+same-length-3 c = c .before .columns .given
 
 same-length-4 : tie.Need-same-length-4
-same-length-4 c = search needs
+same-length-4 c = prices (c .before .before .before) .before .row-prices .given
 
 same-length-5 : tie.Need-same-length-5
-same-length-5 c = search needs
+same-length-5 c = prices (c .before .before .before) .column-prices .given
 
 returns : tie.Need-returns
 returns c =

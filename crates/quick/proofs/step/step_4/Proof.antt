@@ -5,17 +5,19 @@ use Prim.Native.Nat.{_<_}
 use native.Mathlib.Omega.{arith}
 use lib.Signed.{_≤ℤ_}
 use lib.IntN.{pos}
+use lib.ListN.{getD}
 use mir.Syntax.{w64}
 use mir.Val.{toZ, ofZ}
 use borrow.Author.Needs.{needs}
 use borrow.Author.Tests.{not-true, not-false}
+use Rattle.lines.proofs.Signed.{within-zero}
 use Rattle.lines.proofs.Squares.{place-lt}
 use Rattle.steps.specs.Steps.{covering}
 use Rattle.ground.proofs.Wide.{back64}
 use Rattle.quick.specs.Keys.{row-of, column-of, names-zero}
 use Rattle.quick.specs.Ways.{passes}
 use Rattle.quick.proofs.KeyBits.{wider}
-use Rattle.quick.proofs.WayLaws.{zero-near, price-fits, price-told, price-within, told-reaches, told-covers}
+use Rattle.quick.proofs.WayLaws.{zero-near, bits-within, less-fits, less-within, price-told, told-reaches, told-covers}
 use Rattle.quick.proofs.step.step_4.Statement.{statement}
 use Rattle.quick.proofs.step.step_4.Tie as tie
 
@@ -126,11 +128,14 @@ starred c = c .before .before
 abbrev place : tie.After-difference-arg → tie.After-column-of
 place c = starred c .before .before
 
+-- 0 is listed beside the rise: that the difference fits does not depend on what is taken off, so a wrong one is refused by the price that it gives
 difference-requires : tie.Need-difference-requires
 difference-requires c κs =
     let told = there (place c) .before .before in
     let safe = start told .pre .safe in
-    price-fits _ _ (c .difference-arg .given) (told .before .struct-told .given .1 .0 .1) (safe .column-within _ (omega (arith, starred c .if2 .left))) (safe .risen-within)
+    let price = bits-within 1099511627776 _ (c .difference-arg .given) (safe .column-within _ (omega (arith, starred c .if2 .left))) in
+    let rise = bits-within 1099511627776 _ (told .before .struct-told .given .1 .0 .1) (safe .risen-within) in
+    search (less-fits, price, rise, within-zero 1099511627776)
 
 lower-requires : tie.Need-lower-requires
 lower-requires c κs =
@@ -139,14 +144,15 @@ lower-requires c κs =
     let pre = start told .pre in
     let safe = pre .safe in
     let below = starred arg .if2 .left in
+    let price = bits-within 1099511627776 _ (arg .difference-arg .given) (safe .column-within _ (omega (arith, below))) in
+    let rise = bits-within 1099511627776 _ (told .before .struct-told .given .1 .0 .1) (safe .risen-within) in
     record {
       word = safe .word;
       keys-square = safe .keys-square;
       row-lines = safe .row-lines;
       key-long = pre .key-long;
       below = omega (arith, below);
-      price-within = price-within _ _ (arg .difference-arg .given) (told .before .struct-told .given .1 .0 .1) (safe .column-within _ (omega (arith, below))) (safe .risen-within)
-          _ (c .before .difference .ok) (c .before .difference .ensures);
+      price-within = search (less-within, price, rise, within-zero 1099511627776, c .before .difference .ok, c .before .difference .ensures);
       row-within = λ i hi. wider (safe .row-within i hi);
       entry-within = λ i hi. safe .entry-within _ (place-lt _ _ i (omega (arith, below)) hi);
     }
@@ -166,8 +172,8 @@ returns-3 c =
     let at = place arg in
     let told = there at .before .before in
     let safe = start told .pre .safe in
-    let price = price-told _ _ (arg .difference-arg .given) (told .before .struct-told .given .1 .0 .1) (safe .column-within _ (omega (arith, starred arg .if2 .left))) (safe .risen-within)
-    _ (difference .difference .ok) (difference .difference .ensures) in
+    let a = begun at .args in
+    let price = price-told (getD (a .column-prices .now) (getD (a .star .now) (at .before .row-of .result) 0) (pos 0)) (a .state .risen) _ (arg .difference-arg .given) (told .before .struct-told .given .1 .0 .1) (difference .difference .ok) (difference .difference .ensures) in
     told-covers _ (begun at .args .state) _ _ _ _ _ _ _ _ (row at) (column at) (zero (there at)) _ _ (omega (arith, starred arg .if2 .left))
     (arg .before .covering .ensures) (risen told) (ap (λ r. r .rows) (arg .before .covering .ensures)) price
     (back64 _ (lower .lower .ok) ∙ lower .lower .ensures .1) (lower .lower .ensures .0)
