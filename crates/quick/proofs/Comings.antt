@@ -83,7 +83,6 @@ module _ {n : ℕ} {costs : List ℤ} {mask : List ℕ} {budget : ℕ} {m : Mach
       record {
         costs-square = sc;
         mask-square = h .tabled .frame .mask-square;
-        flags = h .tabled .frame .flags;
         working-square = sw;
         row-lines = h .tabled .kept .going .shape .row-prices;
         column-lines = h .tabled .kept .going .shape .column-prices;

@@ -1,19 +1,17 @@
 -- Keys in the code: a local holds bits of 64, and each sum, product and cast fits them.
-use mathlib.Core.Path.{_≡_, refl, ap, ap₂, _∙_}
-use mathlib.Core.Bool.{Bool, true, false, cond}
-use Prim.Native.Nat.{ℕ, zero, suc, _+_, _*_, _/_, _≤_, _<_, _^_}
+use mathlib.Core.Path.{_≡_, refl, ap, _∙_}
+use Prim.Native.Nat.{ℕ, _+_, _*_, _/_, _<_, _^_}
 use native.Mathlib.Omega.{arith}
-use lib.Dec.{T, eqb}
-use lib.IntN.{ℤ, pos, one, negsuc, natAbs, _+ℤ_, _-ℤ_, _*ℤ_, *ℤ-one, *ℤ-zero}
+use lib.Dec.{T}
+use lib.IntN.{ℤ, pos, negsuc, natAbs, _+ℤ_, _-ℤ_, _*ℤ_}
 use lib.Signed.{_≤ℤ_, nonNeg, mag}
 use mir.Syntax.{w32, w64}
 use mir.Val.{Fits, SFits, toZ, ofZ}
 use mir.Facts.{toZ-ofZ, toZ-pos}
 use Rattle.lines.specs.Bounds.{Within}
-use Rattle.lines.proofs.Tests.{cond-ind}
 use Rattle.lines.proofs.Signed.{P, signed, plus-parts, minus-parts, neg-parts, size}
 use Rattle.ground.proofs.Wide.{back64, wide-back}
-use Rattle.quick.specs.Keys.{far, pack, less-prices}
+use Rattle.quick.specs.Keys.{pack, less-prices}
 use Rattle.quick.proofs.Packs.{times-parts}
 
 pub back32 : (z : ℤ) → mag z < 2 ^ 31 → toZ w32 (ofZ w32 z) ≡ z
@@ -138,50 +136,3 @@ module _ (x p q : ℤ) (hx : mag x < 2 ^ 31) (fp : SFits w64 p) (wp : Within 109
 
     pub both-off : (y : ℤ) → mag y < 2 ^ 63 → y ≡ toZ w64 (ofZ w64 r) -ℤ toZ w64 (ofZ w64 q) → toZ w64 (ofZ w64 y) ≡ x -ℤ p -ℤ q
     both-off y hy ey = back64 y hy ∙ ey ∙ second-is
-
--- ---- a difference of two numbers that locals hold
-
-module _ {a b x y : ℤ} (ha : mag a < 2 ^ 63) (hb : mag b < 2 ^ 63) (ea : a ≡ x) (eb : b ≡ y) where
-  pub held-less : toZ w64 (ofZ w64 a) -ℤ toZ w64 (ofZ w64 b) ≡ x -ℤ y
-  held-less = ap₂ _-ℤ_ (back64 a ha ∙ ea) (back64 b hb ∙ eb)
-
-  pub held-less-fits : SFits w64 (x -ℤ y) → SFits w64 (toZ w64 (ofZ w64 a) -ℤ toZ w64 (ofZ w64 b))
-  held-less-fits f = rw held-less f
-
--- ---- a number times a mask byte: itself where the byte is 1, and 0 where it is 0
-
-module _ (z : ℤ) (fits : SFits w64 z) where
-  product : (byte : ℕ) → byte ≤ 1 → toZ w64 (ofZ w64 z) *ℤ toZ w64 byte ≡ cond (eqb byte 1) z (pos 0)
-  unfolding one
-  product zero h = rw (toZ-ofZ fits) (*ℤ-zero z)
-  product (suc zero) h = rw (toZ-ofZ fits) (*ℤ-one z)
-  product (suc (suc byte)) h = absurd (omega arith)
-
-  pub picked-fits : (byte : ℕ) → byte ≤ 1 → SFits w64 (toZ w64 (ofZ w64 z) *ℤ toZ w64 byte)
-  picked-fits byte h = rw (product byte h) (cond-ind (SFits w64) (eqb byte 1) z (pos 0) (λ t. fits) (λ t. record { sfits = omega arith }))
-
-  pub picked-is : (byte : ℕ) → byte ≤ 1 → toZ w64 (ofZ w64 (toZ w64 (ofZ w64 z) *ℤ toZ w64 byte)) ≡ cond (eqb byte 1) z (pos 0)
-  picked-is byte h = toZ-ofZ (picked-fits byte h) ∙ product byte h
-
--- ---- a key, or far, by what the key is below far
-
-module _ (x : ℤ) (c r : ℕ) (small : Within 2147483648 x) (hc : c < 64) (hr : r < 64) where
-  abbrev key : ℤ
-  key = pack 64 x c r
-
-  pub below-fits : SFits w64 (far -ℤ key)
-  unfolding pack
-  below-fits =
-      let k = x *ℤ pos 4096 +ℤ pos (c * 64 + r) in
-      omega (signed, minus-parts far k, plus-parts (x *ℤ pos 4096) (pos (c * 64 + r)), times-parts x 4096, small .above, small .below, neg-parts (pos 2147483648))
-
-  pub chosen-fits : (b : Bool) → SFits w64 (far -ℤ cond b (far -ℤ key) (pos 0))
-  unfolding pack
-  chosen-fits true =
-      let k = x *ℤ pos 4096 +ℤ pos (c * 64 + r) in
-      omega (signed, minus-parts far (far -ℤ k), minus-parts far k, plus-parts (x *ℤ pos 4096) (pos (c * 64 + r)), times-parts x 4096, small .above, small .below, neg-parts (pos 2147483648))
-  chosen-fits false = omega (signed, minus-parts far (pos 0))
-
-  pub chosen-is : (b : Bool) → far -ℤ cond b (far -ℤ key) (pos 0) ≡ cond b key far
-  chosen-is true = omega (signed, minus-parts far (far -ℤ key), minus-parts far key)
-  chosen-is false = omega (signed, minus-parts far (pos 0))

@@ -26,6 +26,7 @@ use Rattle.quick.specs.Ways.{term-at, own-term}
 use Rattle.quick.specs.Shown.{most-value, Tabled}
 use Rattle.quick.proofs.Packs.{times-parts}
 use Rattle.quick.proofs.Opens.{term-told, term-shut}
+use Rattle.steps.specs.Steps as S
 
 pub within-more : {L M : ℕ} {z : ℤ} → L ≤ M → Within L z → Within M z
 within-more {L} {M} {z} h w = record { above = omega (signed, w .above, neg-parts (pos L), neg-parts (pos M)); below = omega (signed, w .below) }

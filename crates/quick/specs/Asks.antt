@@ -17,7 +17,7 @@ use Rattle.lines.specs.Count.{count}
 use Rattle.lines.specs.Sets.{has, rest}
 use Rattle.steps.specs.Lent.{allows, cost-at}
 use Rattle.steps.specs.Steps.{is-zero, row-price, start}
-use Rattle.ground.specs.Square.{Square, InWord, Flags}
+use Rattle.ground.specs.Square.{Square, InWord}
 use Rattle.ground.specs.Prices.{AdjustsPrices}
 use Rattle.ground.specs.Good.{ForStart, Frame, Kept}
 use Rattle.quick.specs.Keys.{limit, row-of, column-of}
@@ -32,18 +32,11 @@ pub record Fills (n : ℕ) (costs : List ℤ) (mask : List ℕ) (keys : List ℤ
   pub most : n ≤ 64
   pub costs-square : Square n costs
   pub mask-square : Square n mask
-  pub flags : Flags mask
   pub keys-square : Square n keys
 
 -- a cost of 32 bits, and lines that the base holds
 pub record Packs (value : ℤ) (column row : ℕ) : Type 0 where
   pub small : Within 2147483648 value
-  pub column-bit : column < 64
-  pub row-bit : row < 64
-
--- a mask byte that is 0 or 1, and such lines
-pub record EntryAt (byte column row : ℕ) : Type 0 where
-  pub flag : byte ≤ 1
   pub column-bit : column < 64
   pub row-bit : row < 64
 
@@ -124,7 +117,6 @@ pub record PricesRows (n : ℕ) (costs : List ℤ) (cheapest : List ℕ) (row-pr
 pub record WritesRow (n : ℕ) (costs : List ℤ) (mask : List ℕ) (row : ℕ) (price : ℤ) (column-prices working : List ℤ) : Type 0 where
   pub costs-square : Square n costs
   pub mask-square : Square n mask
-  pub flags : Flags mask
   pub working-square : Square n working
   pub below : row < n
   pub price-within : Within 1099511627776 price
@@ -134,7 +126,6 @@ pub record WritesRow (n : ℕ) (costs : List ℤ) (mask : List ℕ) (row : ℕ) 
 pub record WritesWorking (n : ℕ) (costs : List ℤ) (mask : List ℕ) (row-prices column-prices working : List ℤ) : Type 0 where
   pub costs-square : Square n costs
   pub mask-square : Square n mask
-  pub flags : Flags mask
   pub working-square : Square n working
   pub row-lines : length row-prices ≡ n
   pub column-lines : length column-prices ≡ n

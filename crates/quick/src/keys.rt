@@ -8,10 +8,9 @@ ghost use lib.Signed.{ltZ, _≤ℤ_};
 ghost use lib.ListN.{length, getD};
 ghost use Rattle.lines.specs.Square.{table, square};
 ghost use Rattle.steps.specs.Lent.{allows, cost-at};
-ghost use Rattle.quick.specs.Asks.{Fills, Packs, EntryAt, LessPrices, Lowers};
+ghost use Rattle.quick.specs.Asks.{Fills, Packs, LessPrices, Lowers};
 ghost use Rattle.quick.specs.Filled.{FilledRow, CheapestIn};
 ghost use Rattle.quick.specs.Keys.{pack as Keys·pack, value-of, column-of, row-of, entry as Keys·entry, names-zero, less-prices, lesser as Keys·lesser, lowered-key, least-key, far as Keys·far, limit};
-use crate::values;
 use ground::sets;
 
 fn pack(value: i64, column: usize, row: usize) -> i64
@@ -72,12 +71,13 @@ pub(crate) fn names_zero(best: i64, risen: i64) -> bool
 
 // The key of a cost, or far.
 fn entry(cost: i32, byte: u8, column: usize, row: usize) -> i64
-    requires { ⌜ EntryAt byte column row ⌝ }
+    requires { ⌜ (column < 64) × (row < 64) ⌝ }
     ensures { λ r. ⌜ r ≡ cond (eqb byte 1) (Keys·pack 64 cost column row) Keys·far ⌝ }
 {
-    let key = pack(cost as i64, column, row);
-    let below = values::difference(far(), key);
-    values::difference(far(), values::where_allowed(below, byte))
+    if byte == 1 {
+        return pack(cost as i64, column, row);
+    }
+    far()
 }
 
 // The keys of the costs of one row, each in its column of the table. Returns the first column in which the row is cheapest; n where none is allowed.

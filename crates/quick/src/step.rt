@@ -27,7 +27,7 @@ pub(crate) struct State {
 
 // ---- steps 1 and 2
 
-// The prices and the stars that the run begins with, and the keys of the costs. `cheapest` is where each row is cheapest of all, till the stars are set; then no free column is known.
+// The prices and the stars that the run begins with, and the keys of the costs.
 pub(crate) fn start(
     n: usize,
     costs: &[i32],

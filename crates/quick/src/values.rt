@@ -1,8 +1,6 @@
 // Working values by prices: the row minima that the steps begin with, and the values that the prices leave at the end.
 ghost use mathlib.Core.Path.{_≡_};
 ghost use mathlib.Core.Bool.{cond};
-ghost use Prim.Native.Nat.{_≤_};
-ghost use lib.Dec.{eqb};
 ghost use lib.IntN.{pos, _-ℤ_};
 ghost use lib.ListN.{getD};
 ghost use mir.Syntax.{w64};
@@ -17,14 +15,6 @@ pub(crate) fn difference(x: i64, y: i64) -> i64
     ensures { λ r. ⌜ r ≡ x -ℤ y ⌝ }
 {
     x - y
-}
-
-// The number where the mask byte is 1, and 0 where it is 0: a branch on a mask costs more.
-pub(crate) fn where_allowed(number: i64, byte: u8) -> i64
-    requires { ⌜ byte ≤ 1 ⌝ }
-    ensures { λ r. ⌜ r ≡ cond (eqb byte 1) number (pos 0) ⌝ }
-{
-    number * byte as i64
 }
 
 // Step 1: the price of each row is its cost where it is cheapest.
@@ -57,11 +47,14 @@ fn write_row(
     let mut column = 0;
     while column < n {
         let place = start + column;
-        let above = difference(
-            difference(costs[place] as i64, price),
-            column_prices[column],
-        );
-        working[place] = where_allowed(above, mask[place]);
+        if mask[place] == 1 {
+            working[place] = difference(
+                difference(costs[place] as i64, price),
+                column_prices[column],
+            );
+        } else {
+            working[place] = 0;
+        }
         column += 1;
     }
 }

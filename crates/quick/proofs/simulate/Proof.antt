@@ -1,5 +1,6 @@
 -- `simulate` comes to the end that the run's last state shows.
 use mathlib.Core.Path.{_∙_}
+use borrow.Author.Needs.{needs}
 use Rattle.quick.proofs.Comings.{held-started, came-to, write-asks}
 use Rattle.quick.proofs.simulate.Statement.{statement}
 use Rattle.quick.proofs.simulate.Tie as tie
@@ -57,7 +58,7 @@ start-requires c κs =
     let asks = p .asks in
     let grid = asks .grid in
     record {
-      fills = record { most = grid .word .most; costs-square = asks .costs-square; mask-square = grid .mask-square; flags = p .frame .flags; keys-square = grid .working-square };
+      fills = record { most = grid .word .most; costs-square = asks .costs-square; mask-square = grid .mask-square; keys-square = grid .working-square };
       rows = asks .rows;
       row-lines = asks .row-lines;
       column-lines = asks .column-lines;

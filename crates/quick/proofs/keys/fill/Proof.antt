@@ -31,7 +31,7 @@ fill-row-requires : tie.Need-fill-row-requires Inv-loop μ-loop
 fill-row-requires c κs =
     let test = c .before in
     let p = start (test .before) .pre .0 in
-    (record { most = p .most; costs-square = p .costs-square; mask-square = p .mask-square; flags = p .flags; keys-square = test .before .loop .inv .1 }, test .loop-test .taken)
+    (record { most = p .most; costs-square = p .costs-square; mask-square = p .mask-square; keys-square = test .before .loop .inv .1 }, test .loop-test .taken)
 
 mul-cheapest : tie.Need-mul-cheapest Inv-loop μ-loop
 mul-cheapest c = search needs

@@ -73,10 +73,7 @@ shared-slice-read-entry : tie.Need-shared-slice-read-entry Inv-loop μ-loop
 shared-slice-read-entry c = let f = column (c .before .before) in search needs
 
 entry-requires : tie.Need-entry-requires Inv-loop μ-loop
-entry-requires c κs =
-    let test = c .before .before in
-    let pre = start (test .before) .pre in
-    record { flag = pre .0 .flags _; column-bit = omega (arith, test .loop-test .taken, pre .0 .most); row-bit = omega (arith, pre .1, pre .0 .most) }
+entry-requires c κs = let f = column (c .before .before) in search needs
 
 mul-here : tie.Need-mul-here Inv-loop μ-loop
 mul-here c = let f = column (turn c) in search needs

@@ -1,19 +1,20 @@
 -- `values::write_row` writes the working values of a row, column by column (`RowPassed`).
-use mathlib.Core.Path.{_≡_, _∙_}
+use mathlib.Core.Path.{_∙_}
 use mathlib.Core.Bool.{cond}
 use Prim.Native.Nat.{_+_, _*_, _-_, _≤_}
 use native.Mathlib.Omega.{arith}
 use lib.IntN.{pos, _-ℤ_}
 use lib.ListN.{getD}
 use mir.Syntax.{w64}
-use mir.Val.{toZ, ofZ}
+use mir.Val.{toZ}
 use mir.Facts.{toZ-ofZ}
 use Rattle.lines.proofs.Signed.{within-zero}
+use Rattle.lines.proofs.Tests.{cases}
 use Rattle.lines.proofs.Rows.{RowPassed, row-none, row-store, row-all}
 use Rattle.lines.proofs.Bounds.{row-end}
 use Rattle.steps.specs.Lent.{allows, cost-at}
-use Rattle.steps.proofs.Masks.{allows-is}
-use Rattle.ground.proofs.Wide.{back64, wide-fits}
+use Rattle.steps.proofs.Masks.{allows-yes, allows-no}
+use Rattle.ground.proofs.Wide.{wide-fits}
 use Rattle.quick.proofs.KeyBits.{first-fits, second-fits, both-off}
 use borrow.Author.Needs.{needs}
 use Rattle.quick.proofs.values.write_row.Statement.{statement}
@@ -36,6 +37,9 @@ loop-holds c = (row-end _ _ (c .before .pre .below), search needs, row-none _ _ 
 add-place : tie.Need-add-place Inv-loop μ-loop
 add-place c = search needs
 
+shared-slice-read-if1 : tie.Need-shared-slice-read-if1 Inv-loop μ-loop
+shared-slice-read-if1 c = search needs
+
 mul-difference : tie.Need-mul-difference Inv-loop μ-loop
 mul-difference c = search needs
 
@@ -48,8 +52,8 @@ cast-difference c = search (wide-fits, needs)
 difference-requires : tie.Need-difference-requires Inv-loop μ-loop
 unfolding cost-at
 difference-requires c κs =
-    let s = c .before .before .before .before in
-    let x = cost-at (s .args .n) (s .args .costs .now) (s .args .row) (c .before .before .loop .column) in
+    let s = c .before .before .before .before .before .before in
+    let x = cost-at (s .args .n) (s .args .costs .now) (s .args .row) (c .before .before .before .before .loop .column) in
     first-fits x (s .args .price) (pos 0) (c .difference-arg .given) (s .fits .price) (s .pre .price-within) (within-zero 1099511627776)
 
 mul-difference-2 : tie.Need-mul-difference-2 Inv-loop μ-loop
@@ -61,21 +65,21 @@ shared-slice-copy-out-difference-2 c = search needs
 difference-requires-2 : tie.Need-difference-requires-2 Inv-loop μ-loop
 unfolding cost-at
 difference-requires-2 c κs =
-    let s = c .before .before .before .before .before .before in
-    let l = c .before .before .before .before .loop in
+    let s = c .before .before .before .before .before .before .before .before in
+    let l = c .before .before .before .before .before .before .loop in
     second-fits (cost-at (s .args .n) (s .args .costs .now) (s .args .row) (l .column)) (s .args .price) _ (c .before .before .difference-arg .given) (s .fits .price) (s .pre .price-within) (s .pre .column-within (l .column) (omega arith)) _ (c .before .difference .ok) (c .difference-arg2 .given) (c .before .difference .ensures)
 
-shared-slice-read-where-allowed : tie.Need-shared-slice-read-where-allowed Inv-loop μ-loop
-shared-slice-read-where-allowed c = search needs
-
-where-allowed-requires : tie.Need-where-allowed-requires Inv-loop μ-loop
-where-allowed-requires c κs = c .before .before .before .before .before .before .before .before .pre .flags _
-
-mul-t14 : tie.Need-mul-t14 Inv-loop μ-loop
-mul-t14 c = search needs
+mul-t23 : tie.Need-mul-t23 Inv-loop μ-loop
+mul-t23 c = search needs
 
 slice-set-from-working : tie.Need-slice-set-from-working Inv-loop μ-loop
 slice-set-from-working c = search needs
+
+mul-working : tie.Need-mul-working Inv-loop μ-loop
+mul-working c = search needs
+
+slice-set-of-working : tie.Need-slice-set-of-working Inv-loop μ-loop
+slice-set-of-working c = search needs
 
 add-column : tie.Need-add-column Inv-loop μ-loop
 add-column c = search needs
@@ -86,21 +90,21 @@ loop-less c = search needs
 loop-again : tie.Need-loop-again Inv-loop μ-loop
 unfolding cost-at
 loop-again c =
-    let second = c .before .before in
-    let price-2 = second .before in
-    let first = price-2 .before in
-    let cost = first .before in
-    let test = cost .before in
-    let l = test .before .loop in
-    let s = test .before .before .before in
+    let s = c .before .before .before .before .before in
     let a = s .args in
+    let l = c .before .before .before .loop in
     let x = cost-at (a .n) (a .costs .now) (a .row) (l .column) in
     let q = getD (a .column-prices .now) (l .column) (pos 0) in
-    let off = both-off x (a .price) q (cost .difference-arg .given) (s .fits .price) (s .pre .price-within) (s .pre .column-within (l .column) (omega arith)) _ (first .difference .ok) (price-2 .difference-arg2 .given) (first .difference .ensures)
-    _ (second .difference2 .ok) (second .difference2 .ensures) in
-    let v : toZ w64 (ofZ w64 (c .where-allowed .result)) ≡ cond (allows (a .n) (a .mask .now) (a .row) (l .column)) (x -ℤ toZ w64 (ofZ w64 (a .price)) -ℤ q) (pos 0) =
-    back64 _ (c .where-allowed .ok) ∙ c .where-allowed .ensures ∙ rw (off, allows-is (a .n) (a .mask .now) (a .row) (l .column) (omega arith), toZ-ofZ (s .fits .price)) in
-    (search needs, search needs, row-store _ _ _ _ _ _ _ _ (omega arith) (omega arith) v (l .inv .2))
+    let ok = allows-yes (a .n) (a .mask .now) (a .row) (l .column) (omega arith) in
+    let no-ok = allows-no (a .n) (a .mask .now) (a .row) (l .column) (omega arith) in (
+      search needs,
+      search needs,
+      cases (c .if1 .came)
+          (λ w. rw (w .5) (row-store _ _ _ _ _ _ _ _ (omega arith) (omega arith)
+          (both-off x (a .price) q (w .1 .given) (s .fits .price) (s .pre .price-within) (s .pre .column-within (l .column) (omega arith)) _ (w .2 .ok) (w .3 .given) (w .2 .ensures) _ (w .4 .ok) (w .4 .ensures)
+          ∙ rw (ok (w .0 .taken), toZ-ofZ (s .fits .price))) (l .inv .2)))
+          (λ w. rw (w .1) (row-store _ _ _ _ _ _ _ _ (omega arith) (omega arith) (rw (no-ok (w .0 .left))) (l .inv .2))),
+    )
 
 same-length : tie.Need-same-length Inv-loop μ-loop
 same-length c = search needs
@@ -119,6 +123,7 @@ write-row-spec =
     mul-start
     loop-holds
     add-place
+    shared-slice-read-if1
     mul-difference
     shared-slice-copy-out-difference
     cast-difference
@@ -126,10 +131,10 @@ write-row-spec =
     mul-difference-2
     shared-slice-copy-out-difference-2
     difference-requires-2
-    shared-slice-read-where-allowed
-    where-allowed-requires
-    mul-t14
+    mul-t23
     slice-set-from-working
+    mul-working
+    slice-set-of-working
     add-column
     loop-less
     loop-again

@@ -37,7 +37,6 @@ write-row-requires c κs =
     record {
       costs-square = s .pre .costs-square;
       mask-square = s .pre .mask-square;
-      flags = s .pre .flags;
       working-square = l .inv .1 .rows .long ∙ s .pre .working-square;
       below = search needs;
       price-within = rw (back64 _ (c .before .write-row-arg .given)) (s .pre .row-within (l .row) (omega arith));
