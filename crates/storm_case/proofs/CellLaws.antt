@@ -14,11 +14,12 @@ use borrow.Author.Tests.{lt-ltb, le-ltb, le-leb, lt-leb, ltb-false, not-true}
 use Rattle.lines.proofs.Tests.{and-right, T-true}
 use Rattle.lines.proofs.Rows.{RowPassed, RowsPassed}
 use Rattle.lines.proofs.Bounds.{RowFits}
-use Rattle.storm_case.specs.Numbers.{u16-at, u32-at}
-use Rattle.storm_case.specs.Scan as D
+use Rattle.judgement.specs.Numbers.{u16-at, u32-at}
+use Rattle.judgement.specs.Scan as D
 use Rattle.storm_case.specs.Case.{row-area, row-clock, column-area, column-clock, clock-error, may-pair, pair-cost, mask-byte}
-use Rattle.storm_case.specs.declared.scan.Scan.{Scan}
-use Rattle.storm_case.specs.View.{view-scan, Fillable}
+use Rattle.judgement.specs.declared.scan.Scan.{Scan}
+use Rattle.judgement.specs.View.{view-scan}
+use Rattle.storm_case.specs.Asks.{Fillable}
 
 -- not above, tested from the other side
 pub not-above : (x y : ℕ) → leb x y ≡ not (ltb y x)

@@ -1,13 +1,10 @@
-pub mod OneRecord
-pub mod ScanLaws
-pub mod ViewLaws
+pub use Rattle.judgement.proofs.ScanLaws
 pub mod CellLaws
 pub mod Room
 pub mod CaseLaws
 pub mod SaidLaws
 pub mod Samples
 pub mod Decides
-pub mod Longest
 pub mod Only
 pub mod FormatBytes
 pub mod FormatScan

@@ -9,8 +9,8 @@ use Rattle.lines.specs.Square.{square}
 use Rattle.storm_case.specs.declared.Case.{Case}
 use Rattle.storm_case.specs.declared.Hut.{Hut}
 use Rattle.storm_case.specs.declared.Hut.the-variants.{At, Absent}
-use Rattle.storm_case.specs.Numbers.{u16-at, u32-at}
-use Rattle.storm_case.specs.Scan.{Scan, Judged, more, refused, accepted, judged}
+use Rattle.judgement.specs.Numbers.{u16-at, u32-at}
+use Rattle.judgement.specs.Scan.{Scan, Judged, more, refused, accepted, judged}
 
 module _ (file : List ℕ) (s : Scan) where
   -- of row i: the fragment's hut, area and clock

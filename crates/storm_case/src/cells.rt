@@ -6,9 +6,10 @@ ghost use lib.Dec.{eqb, ltb};
 ghost use lib.IntN.{pos};
 ghost use Rattle.lines.specs.Square.{square, each-row};
 ghost use Rattle.storm_case.specs.Case.{pair-cost, mask-byte};
-ghost use Rattle.storm_case.specs.View.{view-scan, Fillable};
-use crate::numbers;
-use crate::scan::Scan;
+ghost use Rattle.judgement.specs.View.{view-scan};
+ghost use Rattle.storm_case.specs.Asks.{Fillable};
+use judgement::numbers;
+use judgement::scan::Scan;
 
 fn difference(row: u32, column: u32) -> u32
     ensures { λ r. ⌜ r ≡ (row - column) + (column - row) ⌝ }

@@ -4,7 +4,7 @@ use mathlib.Core.Path.{refl, _∙_}
 use Prim.Native.Nat.{_-_}
 use native.Mathlib.Omega.{arith}
 use Rattle.lines.proofs.Rows.{rows-none, rows-more, rows-filled}
-use Rattle.storm_case.specs.View.{view-scan}
+use Rattle.judgement.specs.View.{view-scan}
 use Rattle.storm_case.proofs.CellLaws.{RowsDone}
 use Rattle.storm_case.proofs.cells.fill.Statement.{statement}
 use Rattle.storm_case.proofs.cells.fill.Tie as tie
