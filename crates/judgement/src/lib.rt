@@ -1,4 +1,4 @@
-// The judgement of a case file, record after record. Only crate storm_case calls what is here, so a function may have a `requires`.
+// The judgement of a case file, record after record. Only the crates of the case reader call what is here, so a function may have a `requires`.
 ghost use mathlib.Core.Path.{_≡_};
 ghost use lib.ListN.{length};
 ghost use Rattle.judgement.specs.Scan.{judged};

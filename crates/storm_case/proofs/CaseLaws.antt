@@ -17,7 +17,7 @@ use Rattle.judgement.specs.declared.scan.Scan.{Scan}
 use Rattle.judgement.specs.Numbers.{u16-at}
 use Rattle.judgement.specs.Scan as D
 use Rattle.judgement.specs.View.{view-scan, view-judged, Agrees}
-use Rattle.storm_case.specs.Asks.{Fillable}
+use Rattle.cells.specs.Asks.{Fillable}
 use Rattle.storm_case.specs.Case.{hut-of, pair-cost, mask-byte, filled, case, case-of, has-cells, read, hut-in, hut}
 use Rattle.storm_case.proofs.Room.{cells-fit, Front, front-of, cells-are}
 use Rattle.judgement.proofs.ScanLaws.{accepted-filled}

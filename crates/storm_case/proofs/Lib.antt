@@ -1,5 +1,4 @@
 pub use Rattle.judgement.proofs.ScanLaws
-pub mod CellLaws
 pub mod Room
 pub mod CaseLaws
 pub mod SaidLaws

@@ -4,7 +4,6 @@ ghost use Rattle.storm_case.specs.Case.{case, has-cells, read, hut as Ca
 use judgement::numbers;
 use judgement::scan;
 
-mod cells;
 mod said;
 
 pub use records::Found;

@@ -1,13 +1,13 @@
--- `cells::fill` meets its contract: the rows so far are done in both buffers.
+-- `fill` meets its contract: the rows so far are done in both buffers.
 use borrow.Author.Needs.{needs}
 use mathlib.Core.Path.{refl, _∙_}
 use Prim.Native.Nat.{_-_}
 use native.Mathlib.Omega.{arith}
 use Rattle.lines.proofs.Rows.{rows-none, rows-more, rows-filled}
 use Rattle.judgement.specs.View.{view-scan}
-use Rattle.storm_case.proofs.CellLaws.{RowsDone}
-use Rattle.storm_case.proofs.cells.fill.Statement.{statement}
-use Rattle.storm_case.proofs.cells.fill.Tie as tie
+use Rattle.cells.proofs.CellLaws.{RowsDone}
+use Rattle.cells.proofs.fill.Statement.{statement}
+use Rattle.cells.proofs.fill.Tie as tie
 
 abbrev Inv-loop : tie.InvT-loop
 Inv-loop file scan fragments events costs₀ mask₀ n row₀ costs mask row =

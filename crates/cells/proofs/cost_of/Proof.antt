@@ -1,9 +1,9 @@
--- `cells::cost_of`: the error as a signed number, which a window of at most 1,000,000,000 lets fit.
+-- `cost_of`: the error as a signed number, which a window of at most 1,000,000,000 lets fit.
 use native.Mathlib.Omega.{arith}
 use mir.Syntax.{w32}
 use mir.Facts.{toZ-pos}
-use Rattle.storm_case.proofs.cells.cost_of.Statement.{statement}
-use Rattle.storm_case.proofs.cells.cost_of.Tie as tie
+use Rattle.cells.proofs.cost_of.Statement.{statement}
+use Rattle.cells.proofs.cost_of.Tie as tie
 
 cast-result : tie.Need-cast-result
 cast-result c = let h = c .before .pre (c .if1 .taken) in omega arith

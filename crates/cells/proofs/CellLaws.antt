@@ -16,10 +16,10 @@ use Rattle.lines.proofs.Rows.{RowPassed, RowsPassed}
 use Rattle.lines.proofs.Bounds.{RowFits}
 use Rattle.judgement.specs.Numbers.{u16-at, u32-at}
 use Rattle.judgement.specs.Scan as D
-use Rattle.storm_case.specs.Case.{row-area, row-clock, column-area, column-clock, clock-error, may-pair, pair-cost, mask-byte}
+use Rattle.cells.specs.Cells.{row-area, row-clock, column-area, column-clock, clock-error, may-pair, pair-cost, mask-byte}
 use Rattle.judgement.specs.declared.scan.Scan.{Scan}
 use Rattle.judgement.specs.View.{view-scan}
-use Rattle.storm_case.specs.Asks.{Fillable}
+use Rattle.cells.specs.Asks.{Fillable}
 
 -- not above, tested from the other side
 pub not-above : (x y : ℕ) → leb x y ≡ not (ltb y x)

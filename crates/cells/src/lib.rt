@@ -1,13 +1,14 @@
 // The cells that an accepted file says: a pair is allowed if the areas are equal and the clocks at most the window apart; the difference is its cost.
+// Only storm_case calls `fill`, so it may have a `requires`.
 ghost use mathlib.Core.Path.{_≡_};
 ghost use mathlib.Core.Bool.{true, cond, not, _&&_};
 ghost use Prim.Native.Nat.{_+_, _-_, _*_, _≤_, _<_};
 ghost use lib.Dec.{eqb, ltb};
 ghost use lib.IntN.{pos};
 ghost use Rattle.lines.specs.Square.{square, each-row};
-ghost use Rattle.storm_case.specs.Case.{pair-cost, mask-byte};
+ghost use Rattle.cells.specs.Cells.{pair-cost, mask-byte};
 ghost use Rattle.judgement.specs.View.{view-scan};
-ghost use Rattle.storm_case.specs.Asks.{Fillable};
+ghost use Rattle.cells.specs.Asks.{Fillable};
 use judgement::numbers;
 use judgement::scan::Scan;
 
@@ -80,7 +81,7 @@ fn fill_row(
 }
 
 // Every cell, row by row.
-pub(crate) fn fill(
+pub fn fill(
     file: &[u8],
     scan: Scan,
     fragments: &[usize],

@@ -1,4 +1,4 @@
--- `cells::fill_row` meets its contract: the row's columns so far are done in both buffers.
+-- `fill_row` meets its contract: the row's columns so far are done in both buffers.
 use borrow.Author.Needs.{needs}
 use mathlib.Core.Path.{_∙_}
 use Prim.Native.Nat.{_-_}
@@ -8,9 +8,9 @@ use mir.Syntax.{w32}
 use Rattle.lines.proofs.Rows.{row-none, row-store, row-all}
 use Rattle.lines.proofs.Bounds.{row-fits}
 use Rattle.lines.proofs.Wide.{back}
-use Rattle.storm_case.proofs.CellLaws.{RowDone, row-inside, column-inside, full-view, small-error, cell-is}
-use Rattle.storm_case.proofs.cells.fill_row.Statement.{statement}
-use Rattle.storm_case.proofs.cells.fill_row.Tie as tie
+use Rattle.cells.proofs.CellLaws.{RowDone, row-inside, column-inside, full-view, small-error, cell-is}
+use Rattle.cells.proofs.fill_row.Statement.{statement}
+use Rattle.cells.proofs.fill_row.Tie as tie
 
 abbrev Inv-loop : tie.InvT-loop
 Inv-loop file fragments events row costs₀ mask₀ n window fragment area clock start column₀ costs mask column =

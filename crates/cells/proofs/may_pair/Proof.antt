@@ -1,8 +1,8 @@
--- `cells::may_pair`: the areas are equal, and the error is not above the window.
+-- `may_pair`: the areas are equal, and the error is not above the window.
 use borrow.Author.Tests.{eq-eqb, ne-eqb}
-use Rattle.storm_case.proofs.CellLaws.{not-above}
-use Rattle.storm_case.proofs.cells.may_pair.Statement.{statement}
-use Rattle.storm_case.proofs.cells.may_pair.Tie as tie
+use Rattle.cells.proofs.CellLaws.{not-above}
+use Rattle.cells.proofs.may_pair.Statement.{statement}
+use Rattle.cells.proofs.may_pair.Tie as tie
 
 returns : tie.Need-returns
 returns c = rw (ne-eqb (c .before .args .row) (c .before .args .column) (c .if1 .taken))
