@@ -11,16 +11,17 @@ use borrow.Author.Tests.{lt-ltb, le-ltb}
 use Rattle.lines.specs.Square.{square}
 use Rattle.storm_case.specs.declared.Case.{Case}
 use Rattle.storm_case.specs.declared.Hut.the-variants.{At, Absent}
-use Rattle.storm_case.specs.declared.scan.Judged.{Judged}
-use Rattle.storm_case.specs.declared.scan.Judged.the-variants.{More, Refused, Accepted}
-use Rattle.storm_case.specs.declared.scan.Scan.{Scan}
-use Rattle.storm_case.specs.Numbers.{u16-at}
-use Rattle.storm_case.specs.Scan as D
-use Rattle.storm_case.specs.View.{view-scan, view-judged, Agrees, Fillable}
+use Rattle.judgement.specs.declared.scan.Judged.{Judged}
+use Rattle.judgement.specs.declared.scan.Judged.the-variants.{More, Refused, Accepted}
+use Rattle.judgement.specs.declared.scan.Scan.{Scan}
+use Rattle.judgement.specs.Numbers.{u16-at}
+use Rattle.judgement.specs.Scan as D
+use Rattle.judgement.specs.View.{view-scan, view-judged, Agrees}
+use Rattle.cells.specs.Asks.{Fillable}
 use Rattle.storm_case.specs.Case.{hut-of, pair-cost, mask-byte, filled, case, case-of, has-cells, read, hut-in, hut}
 use Rattle.storm_case.proofs.Room.{cells-fit, Front, front-of, cells-are}
-use Rattle.storm_case.proofs.ScanLaws.{accepted-filled}
-use Rattle.storm_case.proofs.ViewLaws.{rows-taken, columns-taken}
+use Rattle.judgement.proofs.ScanLaws.{accepted-filled}
+use Rattle.judgement.proofs.ViewLaws.{rows-taken, columns-taken}
 
 -- ---- the verdict of the code's scan
 

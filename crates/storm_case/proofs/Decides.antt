@@ -13,12 +13,12 @@ use Rattle.records.specs.declared.Found.{Found}
 use Rattle.records.specs.declared.Found.the-variants.{Body, Cut, Unknown}
 use Rattle.records.specs.Records.{found}
 use Rattle.records.proofs.Cuts.{cut-found}
-use Rattle.storm_case.specs.Numbers.{u16-at, u32-at}
-use Rattle.storm_case.specs.Scan as D
+use Rattle.judgement.specs.Numbers.{u16-at, u32-at}
+use Rattle.judgement.specs.Scan as D
 use Rattle.storm_case.specs.Case.{case, case-of, has-cells, read, hut-in, hut}
 use Rattle.storm_case.specs.Said.{said-in, said}
-use Rattle.storm_case.proofs.OneRecord.{Does, refuses, sizes, adds-row, adds-column, ends, record-does}
-use Rattle.storm_case.proofs.ScanLaws.{stays-refused, stays-accepted, never-more}
+use Rattle.judgement.proofs.OneRecord.{Does, refuses, sizes, adds-row, adds-column, ends, record-does}
+use Rattle.judgement.proofs.ScanLaws.{stays-refused, stays-accepted, never-more}
 
 -- ---- one record
 

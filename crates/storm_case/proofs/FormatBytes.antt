@@ -6,7 +6,7 @@ use native.Mathlib.Nat.{add-mul-mod-self-left, add-mul-div-left}
 use native.Mathlib.Omega.{arith}
 use lib.ListN.{length, getD, drop}
 use lib.Seq.{getD-drop}
-use Rattle.storm_case.specs.Numbers.{AreBytes, u16-at, u32-at}
+use Rattle.judgement.specs.Numbers.{AreBytes, u16-at, u32-at}
 use Rattle.storm_case.specs.Format.{Fragment, Event, Line, row, column, little-endian, line-bytes, lines-bytes, encode, FragmentFits, EventFits}
 
 -- ---- a number

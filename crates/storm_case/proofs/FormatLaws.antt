@@ -7,13 +7,13 @@ use native.Mathlib.Numerals.{add-one}
 use native.Mathlib.Omega.{arith}
 use lib.ListN.{length, drop, length-drop, drop-of-length-le}
 use lib.Seq.{drop-cons, drop-drop, getD-drop}
-use Rattle.storm_case.specs.Numbers.{AreBytes, u16-at, u32-at}
-use Rattle.storm_case.specs.Scan as D
+use Rattle.judgement.specs.Numbers.{AreBytes, u16-at, u32-at}
+use Rattle.judgement.specs.Scan as D
 use Rattle.storm_case.specs.Format.{Line, row, column, little-endian, line-bytes, lines-bytes, encode}
 use Rattle.storm_case.specs.Format.{AllFit, WellFormed, Matches, Accepts, Reads, IsCase}
-use Rattle.storm_case.proofs.Samples.{example}
-use Rattle.storm_case.proofs.ScanLaws.{good-size, Filled, stays-refused, stays-accepted, accepted-filled}
-use Rattle.storm_case.proofs.OneRecord.{Does, refuses, sizes, adds-row, adds-column, ends, record-does}
+use Rattle.judgement.proofs.Samples.{example}
+use Rattle.judgement.proofs.ScanLaws.{good-size, Filled, stays-refused, stays-accepted, accepted-filled}
+use Rattle.judgement.proofs.OneRecord.{Does, refuses, sizes, adds-row, adds-column, ends, record-does}
 use Rattle.storm_case.proofs.FormatBytes.{column-in, six-back, row-fits, column-fits, row-written, six-written}
 use Rattle.storm_case.proofs.FormatScan.{row-from, column-from, first-kind, Further, no-further, row-further, column-further}
 use Rattle.storm_case.proofs.FormatScan.{further-matches, further-well-formed}

@@ -15,13 +15,13 @@ use Rattle.lines.proofs.Squares.{place-lt, length-square, square-at}
 use Rattle.lines.proofs.Tests.{T-false, and-left, and-right}
 use Rattle.storm_case.specs.declared.Case.{Case}
 use Rattle.storm_case.specs.declared.Hut.the-variants.{At, Absent}
-use Rattle.storm_case.specs.Numbers.{AreBytes}
-use Rattle.storm_case.specs.Scan as D
+use Rattle.judgement.specs.Numbers.{AreBytes}
+use Rattle.judgement.specs.Scan as D
 use Rattle.storm_case.specs.Case.{clock-error, may-pair, pair-cost, mask-byte, filled, case, case-of, has-cells, read, hut-in, hut}
 use Rattle.storm_case.specs.Format.{Fragment, Event, Line, encode, WellFormed, IsCase, row-at, column-at, Matches}
 use Rattle.storm_case.specs.Format.{Allowed, clocks-apart, PairIs, ReadAs}
 use Rattle.storm_case.proofs.Room.{cells-fit}
-use Rattle.storm_case.proofs.ScanLaws.{never-more}
+use Rattle.judgement.proofs.ScanLaws.{never-more}
 use Rattle.storm_case.proofs.Decides.{refused-early}
 use Rattle.storm_case.proofs.FormatLaws.{accepted-exactly, well-formed-accepted}
 

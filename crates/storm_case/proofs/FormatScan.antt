@@ -5,11 +5,11 @@ use Prim.Native.Nat.{ℕ, zero, suc, _+_, _<_}
 use native.Mathlib.Omega.{arith}
 use lib.ListN.{length, getD, drop, length-map}
 use lib.Seq.{getD-drop}
-use Rattle.storm_case.specs.Scan as D
+use Rattle.judgement.specs.Scan as D
 use Rattle.storm_case.specs.Case.{hut-of, row-area, row-clock, column-area, column-clock}
 use Rattle.storm_case.specs.Format.{Fragment, Event, Line, row, column, rows, columns, AllFit, WellFormed}
 use Rattle.storm_case.specs.Format.{no-row, no-column, row-at, column-at, Matches}
-use Rattle.storm_case.proofs.ScanLaws.{Filled}
+use Rattle.judgement.proofs.ScanLaws.{Filled}
 use Rattle.storm_case.proofs.FormatBytes.{u16-drop, u32-drop, row-in, column-in}
 
 -- ---- lists

@@ -8,12 +8,12 @@ use native.Mathlib.Omega.{arith}
 use lib.ListN.{length, getD, drop, length-drop, length-append}
 use lib.Seq.{drop-drop}
 use Rattle.records.specs.Records.{known, body-length}
-use Rattle.storm_case.specs.Numbers.{u16-at, u32-at}
-use Rattle.storm_case.specs.Scan as D
+use Rattle.judgement.specs.Numbers.{u16-at, u32-at}
+use Rattle.judgement.specs.Scan as D
 use Rattle.storm_case.specs.Format.{Line, row, column, rows, columns, little-endian, line-bytes, lines-bytes, AllFit}
 use Rattle.records.proofs.RecordLaws.{whole}
-use Rattle.storm_case.proofs.ScanLaws.{size-good, line-good, end-good, stays-accepted}
-use Rattle.storm_case.proofs.ScanLaws.{record-whole, kind-size, kind-fragment, kind-event, kind-end}
+use Rattle.judgement.proofs.ScanLaws.{size-good, line-good, end-good, stays-accepted}
+use Rattle.judgement.proofs.ScanLaws.{record-whole, kind-size, kind-fragment, kind-event, kind-end}
 use Rattle.storm_case.proofs.FormatBytes.{row-in, column-in, row-back, six-back}
 use Rattle.storm_case.proofs.FormatScan.{first-kind, Further, no-further, row-further, column-further}
 

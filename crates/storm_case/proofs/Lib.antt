@@ -1,13 +1,9 @@
-pub mod OneRecord
-pub mod ScanLaws
-pub mod ViewLaws
-pub mod CellLaws
+pub use Rattle.judgement.proofs.ScanLaws
 pub mod Room
 pub mod CaseLaws
 pub mod SaidLaws
 pub mod Samples
 pub mod Decides
-pub mod Longest
 pub mod Only
 pub mod FormatBytes
 pub mod FormatScan

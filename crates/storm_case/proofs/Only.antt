@@ -5,7 +5,7 @@ use Prim.Native.Nat.{ℕ}
 use lib.IntN.{ℤ}
 use Rattle.storm_case.specs.declared.Case.{Case}
 use Rattle.storm_case.specs.declared.Hut.{Hut}
-use Rattle.storm_case.specs.Scan.{Scan}
+use Rattle.judgement.specs.Scan.{Scan}
 use Rattle.storm_case.specs.Case.{read, hut}
 use Rattle.storm_case.specs.Said.{said}
 

@@ -10,11 +10,12 @@ use lib.Seq.{ext-getD, getD-take}
 use borrow.Author.Tests.{lt-ltb, le-ltb, ltb-true}
 use Rattle.lines.specs.Square.{each}
 use Rattle.lines.proofs.Squares.{length-each, each-at}
-use Rattle.storm_case.specs.declared.scan.Judged.{Judged}
-use Rattle.storm_case.specs.declared.scan.Judged.the-variants.{More, Refused, Accepted}
-use Rattle.storm_case.specs.declared.scan.Scan.{Scan}
-use Rattle.storm_case.specs.Scan as D
-use Rattle.storm_case.specs.View.{view-scan, Agrees, Offsets, Readable, accepted-lines}
+use Rattle.judgement.specs.declared.scan.Judged.{Judged}
+use Rattle.judgement.specs.declared.scan.Judged.the-variants.{More, Refused, Accepted}
+use Rattle.judgement.specs.declared.scan.Scan.{Scan}
+use Rattle.judgement.specs.Scan as D
+use Rattle.judgement.specs.View.{view-scan, Agrees, Offsets}
+use Rattle.storm_case.specs.Asks.{Readable, accepted-lines}
 use Rattle.storm_case.specs.Said.{said-in, said}
 use Rattle.storm_case.proofs.CaseLaws.{judged-is, all-read}
 

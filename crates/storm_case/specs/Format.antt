@@ -6,7 +6,7 @@ use lib.IntN.{ℤ, pos}
 use lib.ListN.{length, getD, drop}
 use Rattle.lines.specs.Square.{cell}
 use Rattle.storm_case.specs.declared.Case.{Case}
-use Rattle.storm_case.specs.Scan.{Scan, accepted, judged}
+use Rattle.judgement.specs.Scan.{Scan, accepted, judged}
 use Rattle.storm_case.specs.Case.{case, hut-of, row-area, row-clock, column-area, column-clock}
 
 pub record Fragment : Type 0 where

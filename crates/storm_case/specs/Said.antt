@@ -4,7 +4,7 @@ use mathlib.Core.List.{List}
 use Prim.Native.Nat.{ℕ}
 use lib.Dec.{ltb}
 use Rattle.lines.specs.Square.{each}
-use Rattle.storm_case.specs.Scan.{Scan, Judged, more, refused, accepted, judged}
+use Rattle.judgement.specs.Scan.{Scan, Judged, more, refused, accepted, judged}
 
 -- what `f` says of line i
 unfoldable pub said-in : (Scan → ℕ → ℕ) → List ℕ → Judged → List ℕ

@@ -1,13 +1,10 @@
-// The case reader: the judgement of a case file, the costs and mask that it says, and the hut of a row.
+// The case reader: the costs and mask that a case file says, the hut of a row, and what it says of each line.
 ghost use mathlib.Core.Path.{_≡_};
 ghost use Rattle.storm_case.specs.Case.{case, has-cells, read, hut as Case·hut};
+use judgement::numbers;
+use judgement::scan;
 
-mod cells;
-mod judgement;
-mod numbers;
-mod record;
 mod said;
-mod scan;
 
 pub use records::Found;
 pub use records::body;

@@ -5,14 +5,13 @@ ghost use Prim.Native.Nat.{_+_};
 ghost use lib.Dec.{ltb};
 ghost use lib.ListN.{getD};
 ghost use Rattle.lines.specs.Square.{each};
-ghost use Rattle.storm_case.specs.Numbers.{u16-at, u32-at};
+ghost use Rattle.judgement.specs.Numbers.{u16-at, u32-at};
 ghost use Rattle.storm_case.specs.Case.{hut-of, row-area, row-clock, column-area, column-clock};
 ghost use Rattle.storm_case.specs.Said.{said};
-ghost use Rattle.storm_case.specs.View.{Readable, accepted-lines};
-use crate::judgement;
-use crate::numbers;
-use crate::scan::Judged;
-use crate::scan::Scan;
+ghost use Rattle.storm_case.specs.Asks.{Readable, accepted-lines};
+use judgement::numbers;
+use judgement::scan::Judged;
+use judgement::scan::Scan;
 
 // The number so far behind each of the first offsets.
 fn put_u16s(file: &[u8], offsets: &[usize], count: usize, shift: usize, out: &mut [u16])

@@ -8,7 +8,7 @@ use lib.ListN.{length, take}
 use Rattle.steps.proofs.Promised.{promised}
 use Rattle.steps.proofs.Theorems.{only-answer}
 use Rattle.storm_case.specs.Numbers.{AreBytes}
-use Rattle.storm_case.proofs.Samples.{example}
+use Rattle.judgement.proofs.Samples.{example}
 use Rattle.storm_case.proofs.FormatBytes.{case-are-bytes}
 use Rattle.storm_case.proofs.FormatLaws.{example-written}
 use Rattle.valley.specs.Report.{Reported}

@@ -23,7 +23,7 @@ use Rattle.storm_case.specs.Numbers.{u16-at, u32-at}
 use Rattle.storm_case.specs.Scan.{bad-size, size, line, end, by-kind, record-of, judge-record, judge-from, judged}
 use Rattle.storm_case.specs.Case.{hut-of, row-area, row-clock, column-area, column-clock, clock-error, may-pair, pair-cost, mask-byte}
 use Rattle.storm_case.specs.Said.{said-in, said}
-use Rattle.storm_case.proofs.Samples.{example, one}
+use Rattle.judgement.proofs.Samples.{example, one}
 use Rattle.pairing.specs.Pair.{front, enough}
 use Rattle.text.specs.Numbers.{decimal-from, decimal, sign, signed, refusal}
 use Rattle.valley.specs.Lines.{row-line, row-lines, total-line, lines}

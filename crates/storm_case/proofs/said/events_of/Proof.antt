@@ -3,7 +3,7 @@ use mathlib.Core.Path.{refl}
 use Prim.Native.Nat.{_+_}
 use native.Mathlib.Omega.{arith}
 use borrow.Author.Needs.{needs}
-use Rattle.storm_case.specs.Numbers.{u16-at, u32-at}
+use Rattle.judgement.specs.Numbers.{u16-at, u32-at}
 use Rattle.storm_case.specs.Case.{column-area, column-clock}
 use Rattle.storm_case.proofs.SaidLaws.{columns-readable, column-said}
 use Rattle.storm_case.proofs.said.events_of.Statement.{statement}

@@ -3,7 +3,7 @@ use mathlib.Core.Path.{refl}
 use Prim.Native.Nat.{_+_}
 use native.Mathlib.Omega.{arith}
 use borrow.Author.Needs.{needs}
-use Rattle.storm_case.specs.Numbers.{u16-at}
+use Rattle.judgement.specs.Numbers.{u16-at}
 use Rattle.storm_case.specs.Case.{hut-of}
 use Rattle.storm_case.proofs.SaidLaws.{rows-readable, row-said}
 use Rattle.storm_case.proofs.said.huts_of.Statement.{statement}

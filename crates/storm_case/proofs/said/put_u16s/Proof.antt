@@ -8,7 +8,7 @@ use borrow.Author.Tests.{lt-ltb, le-ltb}
 use lib.Dec.{ltb}
 use lib.ListN.{length, getD}
 use Rattle.lines.proofs.Loops.{Passed, passed-none, passed-store, passed-keep, passed-all}
-use Rattle.storm_case.specs.Numbers.{u16-at}
+use Rattle.judgement.specs.Numbers.{u16-at}
 use Rattle.storm_case.proofs.said.put_u16s.Statement.{statement}
 use Rattle.storm_case.proofs.said.put_u16s.Tie as tie
 
