@@ -10,8 +10,8 @@ use Rattle.lines.proofs.Signed.{signed, plus-parts, minus-parts}
 use Rattle.steps.specs.Steps.{followed}
 use Rattle.steps.specs.Going.{Open}
 use Rattle.steps.proofs.Adjusted.{open-falls}
-use Rattle.quick.specs.Keys.{pack}
-use Rattle.quick.specs.Best.{key-at, KeyIn, Keys, Best}
+use Rattle.keyed.specs.Keys.{pack}
+use Rattle.keyed.specs.Best.{key-at, KeyIn, Keys, Best}
 
 module _ (B n : ℕ) (ok : ℕ → ℕ → Bool) (limit : ℤ) (working : List ℤ) (rows columns : ℕ) (risen z : ℤ) (size : length working ≡ n * n) where
   abbrev pub after : List ℤ

@@ -14,7 +14,7 @@ use Rattle.ground.specs.View.{view, view-next}
 use Rattle.ground.specs.Good.{Adjusts}
 use Rattle.ground.specs.declared.run.Next.the-variants.{Step3, Step4, Step5, Step6}
 use Rattle.ground.proofs.GoodLaws.{more-primes, more-augmentations, adjusts}
-use Rattle.quick.specs.Keys.{limit, value-of}
+use Rattle.keyed.specs.Keys.{limit, value-of}
 use Rattle.quick.specs.Ways.{change}
 use Rattle.quick.specs.Asks.{ForStep3, ForStep4, ForStep5, ForStep6}
 use Rattle.quick.specs.Shown.{Held, shown}

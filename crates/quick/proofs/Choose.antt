@@ -20,9 +20,9 @@ use Rattle.lines.proofs.Signed.{P, signed, minus-parts, whole}
 use Rattle.steps.specs.Steps.{zero-at, uncovered, zero-in-column, zero-column, lowest}
 use Rattle.steps.specs.Going.{Open, OpenZero, NoZero, NoOpen}
 use Rattle.steps.proofs.Turns.{is-zero-pos, zero-found, zero-none, lowest-found, lowest-none}
-use Rattle.quick.specs.Keys.{pack, value-of, column-of, row-of}
-use Rattle.quick.specs.Best.{key-at, KeyOf, Best}
-use Rattle.quick.proofs.Packs.{pack-value, pack-column, pack-row, value-out, column-out, row-out}
+use Rattle.keyed.specs.Keys.{pack, value-of, column-of, row-of}
+use Rattle.keyed.specs.Best.{key-at, KeyOf, Best}
+use Rattle.keyed.proofs.Packs.{pack-value, pack-column, pack-row, value-out, column-out, row-out}
 
 module _ (B n : ℕ) (ok : ℕ → ℕ → Bool) (limit : ℤ) (base : n ≤ B) (working : List ℤ) (rows columns d : ℕ)
     (above : (i j : ℕ) → i < n → j < n → T (ok i j) → pos 0 ≤ℤ cell (pos 0) n working i j)

@@ -15,8 +15,9 @@ use Rattle.ground.specs.View.{view}
 use Rattle.ground.specs.Good.{Frame, Kept, Good, Came}
 use Rattle.ground.proofs.GoodLaws.{sound-at}
 use Rattle.ground.proofs.Arms.{Coming}
-use Rattle.quick.specs.Asks.{WritesWorking}
-use Rattle.quick.specs.Shown.{Started, working-of, marks-of, Holds, Held, shown, Reached}
+use Rattle.keyed.specs.Asks.{WritesWorking}
+use Rattle.quick.specs.Shown.{Started, Holds, Held, shown, Reached}
+use Rattle.keyed.specs.Written.{working-of, marks-of}
 use Rattle.quick.specs.declared.step.State.{State}
 use Rattle.quick.proofs.Resumes.{held-at-3}
 use Rattle.quick.proofs.ShownLaws.{shown-is}

@@ -14,12 +14,12 @@ use Rattle.steps.specs.Lent.{allows}
 use Rattle.steps.specs.Steps.{Machine}
 use Rattle.steps.specs.Going.{Open}
 use Rattle.ground.proofs.GoodLaws.{kept-step}
-use Rattle.quick.specs.Keys.{limit, pack}
-use Rattle.quick.specs.Best.{key-at}
-use Rattle.quick.specs.Asks.{Safe, Names}
-use Rattle.quick.specs.Ways.{starred, Known}
+use Rattle.keyed.specs.Keys.{limit, pack}
+use Rattle.keyed.specs.Best.{key-at}
+use Rattle.keyed.specs.Asks.{Safe, Names}
+use Rattle.keyed.specs.Opening.{starred, Known}
 use Rattle.quick.specs.Shown.{most-value, Lines, During, Searching, Held}
-use Rattle.quick.proofs.Packs.{times-parts, pack-pos}
+use Rattle.keyed.proofs.Packs.{times-parts, pack-pos}
 use Rattle.quick.proofs.Choose.{value, row-named, column-named, key-is}
 use Rattle.quick.proofs.TableLaws.{within-more, above, column-small, cell-small, safe}
 use Rattle.steps.specs.Steps as S

@@ -16,8 +16,8 @@ use Rattle.steps.specs.Steps.{Run, NoPairing, Unfinished, Step6, to, star-in-ro
 use Rattle.steps.specs.Going.{Open, NoZero}
 use Rattle.steps.proofs.Turns.{zero-found, lowest-found}
 use Rattle.ground.proofs.Adjusting.{step6-none, step6-spent, step6-adjusts}
-use Rattle.quick.specs.Keys.{value-of, column-of, row-of}
-use Rattle.quick.specs.Best.{key-at, Best}
+use Rattle.keyed.specs.Keys.{value-of, column-of, row-of}
+use Rattle.keyed.specs.Best.{key-at, Best}
 use Rattle.quick.proofs.Choose.{none-open, column-named, no-zero, column-found, row-found, some-open, least-found}
 
 module _ (B n : ℕ) (ok : ℕ → ℕ → Bool) (limit : ℤ) (base : n ≤ B) (working : List ℤ) (r : Run) (d : ℕ)

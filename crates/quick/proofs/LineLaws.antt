@@ -20,7 +20,8 @@ use Rattle.steps.specs.Going.{OpenZero, Shows, Search}
 use Rattle.steps.proofs.Marks.{mark-star, mark-prime, mark-none, find-star, find-row, find-prime}
 use Rattle.steps.proofs.Phase.{open-off, star-off}
 use Rattle.steps.proofs.Search.{shown}
-use Rattle.quick.specs.Shown.{Lines, marks-of}
+use Rattle.quick.specs.Shown.{Lines}
+use Rattle.keyed.specs.Written.{marks-of}
 
 -- ---- the marks are what the arrays show
 

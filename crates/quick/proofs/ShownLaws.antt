@@ -16,7 +16,8 @@ use Rattle.steps.specs.Steps.{Machine, machine}
 use Rattle.steps.specs.Going.{Starred, Search, Ready, Sound-at}
 use Rattle.steps.proofs.Phase.{star-off}
 use Rattle.steps.proofs.Search.{time′, chained}
-use Rattle.quick.specs.Shown.{working-of, marks-of, Held, shown}
+use Rattle.keyed.specs.Written.{working-of, marks-of}
+use Rattle.quick.specs.Shown.{Held, shown}
 use Rattle.quick.proofs.LineLaws.{marks-shown}
 use Rattle.quick.proofs.TableLaws.{priced}
 use Rattle.steps.specs.Steps as S

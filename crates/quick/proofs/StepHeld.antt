@@ -25,14 +25,15 @@ use Rattle.steps.proofs.Search.{begun}
 use Rattle.steps.proofs.Marks.{find-row}
 use Rattle.ground.proofs.Arms.{arm-3, arm-4, arm-5, arm-6}
 use Rattle.ground.proofs.GoodLaws.{sound-at}
-use Rattle.quick.specs.Keys.{limit, value-of, row-of, column-of, lesser, lowered-key, least-key}
-use Rattle.quick.specs.Best.{key-at, Best}
-use Rattle.quick.specs.Ways.{term-at, starred, Known, Opens, flipped, Follows}
+use Rattle.keyed.specs.Keys.{limit, value-of, row-of, column-of, lesser, lowered-key, least-key}
+use Rattle.keyed.specs.Best.{key-at, Best}
+use Rattle.keyed.specs.Opening.{term-at, starred, Known, Opens}
+use Rattle.keyed.specs.Flipping.{flipped, Follows}
 use Rattle.quick.specs.Shown.{Lines, During, Held}
 use Rattle.quick.proofs.Choose.{zero-here, row-named, column-named}
-use Rattle.quick.proofs.Opens.{best-of, keys-covered, keys-opened}
-use Rattle.quick.proofs.OpenColumns.{beyond}
-use Rattle.quick.proofs.Cheapests.{is-free, free-is, known-raised, known-flipped}
+use Rattle.keyed.proofs.Opens.{best-of, keys-covered, keys-opened}
+use Rattle.keyed.proofs.OpenColumns.{beyond}
+use Rattle.keyed.proofs.Cheapests.{is-free, free-is, known-raised, known-flipped}
 use Rattle.quick.proofs.Adjusts.{keys-adjusted, best-adjusted}
 use Rattle.quick.proofs.Keyed.{keyed-none, keyed-above, keyed-zero, keyed-blocked, keyed-spent, keyed-adjusts}
 use Rattle.quick.proofs.LineLaws.{lines-primed, same-star, same-owner}

@@ -19,13 +19,13 @@ use Rattle.steps.specs.Steps.{Machine, star-in-column}
 use Rattle.steps.specs.Going.{Priced, Search, has-star}
 use Rattle.steps.proofs.Marks.{find-row}
 use Rattle.ground.proofs.GoodLaws.{kept-bounds}
-use Rattle.quick.specs.Keys.{far, limit, pack, entry}
-use Rattle.quick.specs.Best.{key-at}
-use Rattle.quick.specs.Asks.{Safe}
-use Rattle.quick.specs.Ways.{term-at, own-term}
+use Rattle.keyed.specs.Keys.{far, limit, pack, entry}
+use Rattle.keyed.specs.Best.{key-at}
+use Rattle.keyed.specs.Asks.{Safe}
+use Rattle.keyed.specs.Opening.{term-at, own-term}
 use Rattle.quick.specs.Shown.{most-value, Tabled}
-use Rattle.quick.proofs.Packs.{times-parts}
-use Rattle.quick.proofs.Opens.{term-told, term-shut}
+use Rattle.keyed.proofs.Packs.{times-parts}
+use Rattle.keyed.proofs.Opens.{term-told, term-shut}
 use Rattle.steps.specs.Steps as S
 
 pub within-more : {L M : ℕ} {z : ℤ} → L ≤ M → Within L z → Within M z

@@ -15,8 +15,9 @@ use Rattle.steps.specs.Counts.{over}
 use Rattle.ground.specs.View.{view, view-next}
 use Rattle.ground.specs.declared.run.Next.the-variants.{Step3, Step4, Step5, Step6}
 use Rattle.ground.proofs.Arms.{arm-end}
-use Rattle.quick.specs.Keys.{limit}
-use Rattle.quick.specs.Ways.{Primed, passes, covers, reaches, flipped, Adjusted, blocked, spent, adjusts, Crossed, full, part}
+use Rattle.keyed.specs.Keys.{limit}
+use Rattle.quick.specs.Ways.{Primed, passes, covers, reaches, Adjusted, blocked, spent, adjusts, Crossed, full, part}
+use Rattle.keyed.specs.Flipping.{flipped}
 use Rattle.quick.specs.Shown.{Held, shown, Turned}
 use Rattle.quick.specs.declared.step.State.{State}
 use Rattle.quick.proofs.WayLaws.{zero-near, zero-below, zero-above}

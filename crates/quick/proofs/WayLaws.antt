@@ -14,8 +14,9 @@ use Rattle.lines.proofs.Signed.{signed, minus-parts, neg-parts}
 use Rattle.steps.specs.Steps.{covering, reaching}
 use Rattle.ground.specs.View.{view}
 use Rattle.ground.proofs.Wide.{back64}
-use Rattle.quick.specs.Keys.{limit, value-of, row-of, column-of, names-zero, lesser, lowered-key, least-key}
-use Rattle.quick.specs.Ways.{term-at, Primed, reaches, covers}
+use Rattle.keyed.specs.Keys.{limit, value-of, row-of, column-of, names-zero, lesser, lowered-key, least-key}
+use Rattle.keyed.specs.Opening.{term-at}
+use Rattle.quick.specs.Ways.{Primed, reaches, covers}
 use Rattle.quick.specs.declared.step.State.{State}
 
 -- ---- what it says that a key names a zero, or that it does not

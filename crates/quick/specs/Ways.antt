@@ -1,31 +1,22 @@
 -- The ways that the code goes in steps 3 to 6, each by what it tests and what it leaves.
 use mathlib.Core.Path.{_≡_}
 use mathlib.Core.Logic.{_≢_}
-use mathlib.Core.Bool.{Bool, true, false, not, cond}
+use mathlib.Core.Bool.{true, false, not}
 use mathlib.Core.List.{List}
-use Prim.Native.Nat.{ℕ, zero, suc, _+_, _*_, _≤_, _<_}
-use lib.Dec.{T, ltb}
-use lib.IntN.{ℤ, pos, _+ℤ_, _-ℤ_}
-use lib.Signed.{ltZ, _≤ℤ_}
+use Prim.Native.Nat.{ℕ, zero, _≤_, _<_}
+use lib.Dec.{ltb}
+use lib.IntN.{ℤ, pos, _-ℤ_}
+use lib.Signed.{ltZ}
 use lib.ListN.{getD, set}
-use Rattle.lines.specs.Square.{cell}
 use Rattle.lines.specs.Count.{count}
-use Rattle.lines.specs.Sets.{has, with, those}
+use Rattle.lines.specs.Sets.{has, with}
 use Rattle.steps.specs.Steps.{run-with, to, covering, reaching, adjusting, lowered, raised}
 use Rattle.ground.specs.View.{view}
 use Rattle.ground.specs.declared.run.Run.{Run}
-use Rattle.quick.specs.Keys.{limit, pack, value-of, column-of, row-of, names-zero, less-prices, lesser, lowered-key, least-key}
-use Rattle.quick.specs.Best.{Keys, Best}
+use Rattle.keyed.specs.Keys.{limit, value-of, column-of, row-of, names-zero, lesser, lowered-key, least-key}
 use Rattle.steps.specs.Steps as S
 use Rattle.quick.specs.declared.step.State.{State}
-
--- what a row has in a column that opens at this price
-abbrev pub term-at : ℕ → List ℤ → List ℤ → ℕ → ℤ → ℕ → ℤ
-term-at n keys row-prices column price i = less-prices 64 (getD keys (column * n + i) (pos 0)) (getD row-prices i (pos 0)) price
-
--- what a row has in a column at the price that the column has
-abbrev pub own-term : ℕ → List ℤ → List ℤ → List ℤ → ℕ → ℕ → ℤ
-own-term n keys row-prices column-prices j i = term-at n keys row-prices j (getD column-prices j (pos 0)) i
+use Rattle.keyed.specs.Opening.{term-at, Opens, starred, Known}
 
 -- the state with something else next
 pub record Goes (x : S.Next) (s r : State) : Type 0 where
@@ -34,33 +25,6 @@ pub record Goes (x : S.Next) (s r : State) : Type 0 where
   pub best : r .best ≡ s .best
 
 -- ---- step 3: with n stars all is paired; else the columns without a star open, at their prices
-
--- the columns below n but those of a set open, for the rows but those of a set: what the keys then tell, of any cells whose keys the terms are
-abbrev pub Opens : ℕ → ℕ → ℕ → List ℤ → List ℤ → List ℤ → List ℤ → ℤ → Type 0
-Opens n rows columns keys row-prices column-prices key best =
-    (ok : ℕ → ℕ → Bool) (working : List ℤ)
-    → ((i j : ℕ) → i < n → j < n → T (ok i j) → own-term n keys row-prices column-prices j i ≡ pack 64 (cell (pos 0) n working i j +ℤ pos 0) j i)
-    → ((i j : ℕ) → i < n → j < n → T (not (ok i j)) → limit ≤ℤ own-term n keys row-prices column-prices j i)
-    → Keys 64 n ok limit working rows columns (pos 0) (λ i. getD key i (pos 0)) × Best 64 n ok limit working rows columns (pos 0) best
-
--- the columns that have a star; all others are free
-abbrev pub starred : ℕ → List ℕ → ℕ
-starred n owner = those (λ j. ltb (getD owner j 0) n) n
-
--- in row i no column that is open is cheaper than column c
-abbrev pub NoneCheaper : ℕ → ℕ → List ℤ → List ℤ → List ℤ → ℕ → ℕ → Type 0
-NoneCheaper n columns keys row-prices column-prices i c =
-    (j : ℕ) → j < n → has columns j ≡ false → own-term n keys row-prices column-prices c i ≤ℤ own-term n keys row-prices column-prices j i
-
-pub record Cheapest (n columns : ℕ) (keys row-prices column-prices : List ℤ) (i c : ℕ) : Type 0 where
-  pub below : c < n
-  pub is-open : has columns c ≡ false
-  pub none-cheaper : NoneCheaper n columns keys row-prices column-prices i c
-
--- of each row a column: where it is one, and still open, none is cheaper. All free columns move together, so this stays till the column gets its star
-abbrev pub Known : ℕ → ℕ → List ℤ → List ℤ → List ℤ → List ℕ → Type 0
-Known n columns keys row-prices column-prices cheapest =
-    (i : ℕ) → i < n → getD cheapest i 0 < n → has columns (getD cheapest i 0) ≡ false → NoneCheaper n columns keys row-prices column-prices i (getD cheapest i 0)
 
 module _ (n : ℕ) (s : State) (keys row-prices column-prices : List ℤ) (star owner cheapest : List ℕ) where
   abbrev pub crossed : S.Next → S.Run
@@ -106,18 +70,6 @@ module _ (n : ℕ) (s : State) (keys row-prices column-prices : List ℤ) (star 
         → ((i : ℕ) → i < n → getD key′ i (pos 0) ≡ lowered-key (with (s .run .rows) at-row) at-term i (getD key i (pos 0))) → Primed r prime′ key′
 
 -- ---- step 5: from the prime at (i, j) to the star in its column, to the prime in that star's row, and so on: each row takes its prime's column
-
-module _ (n : ℕ) (prime : List ℕ) where
-  unfoldable pub flipped : ℕ → List ℕ → List ℕ → ℕ → ℕ → List ℕ × List ℕ
-  flipped zero star owner i j = (star, owner)
-  flipped (suc k) star owner i j =
-      let o = getD owner j 0 in
-      cond (ltb o n) (flipped k (set star i j) (set owner j i) o (getD prime o 0)) (set star i j, set owner j i)
-
-  -- every place on the way is in the square
-  unfoldable pub Follows : ℕ → List ℕ → ℕ → ℕ → Type 0
-  Follows zero owner i j = Unit
-  Follows (suc k) owner i j = (i < n) × (j < n) × (getD owner j 0 < n → Follows k (set owner j i) (getD owner j 0) (getD prime (getD owner j 0) 0))
 
 -- ---- step 6
 

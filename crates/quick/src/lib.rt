@@ -10,14 +10,12 @@ ghost use Rattle.ground.specs.Good.{Came};
 ghost use Rattle.quick.specs.Asks.{Simulates};
 use ground::answer;
 use ground::run::Run;
+use keyed::stars;
+use keyed::values;
 use rules::Verdict;
 use steps::Answer;
 
-mod keys;
-mod opening;
-mod stars;
 mod step;
-mod values;
 
 // The run from its start, and what its end shows: working values and marks are written then. In between `working` holds the keys of the costs.
 fn simulate(

@@ -6,17 +6,19 @@ ghost use lib.ListN.{length};
 ghost use Rattle.lines.specs.Square.{table};
 ghost use Rattle.steps.specs.Steps.{augmenting};
 ghost use Rattle.ground.specs.View.{view};
-ghost use Rattle.quick.specs.Asks.{Safe, Starts, ForStep3, ForStep4, ForStep5, ForStep6};
-ghost use Rattle.quick.specs.Ways.{TakenUp, Crossed, Primed, flipped, Adjusted};
+ghost use Rattle.keyed.specs.Asks.{Safe};
+ghost use Rattle.quick.specs.Asks.{Starts, ForStep3, ForStep4, ForStep5, ForStep6};
+ghost use Rattle.quick.specs.Ways.{TakenUp, Crossed, Primed, Adjusted};
+ghost use Rattle.keyed.specs.Flipping.{flipped};
 ghost use Rattle.quick.specs.Shown.{Started, Held, Turned, Reached, shown};
-use crate::keys;
-use crate::opening;
-use crate::stars;
-use crate::values;
 use ground::prices;
 use ground::run;
 use ground::run::Next;
 use ground::run::Run;
+use keyed::keys;
+use keyed::opening;
+use keyed::stars;
+use keyed::values;
 
 // The run, what the adjustments of this phase add up to, and the least key.
 pub(crate) struct State {

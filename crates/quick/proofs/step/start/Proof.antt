@@ -5,7 +5,7 @@ use lib.IntN.{pos}
 use borrow.Author.Needs.{needs}
 use Rattle.lines.specs.Square.{table}
 use Rattle.lines.proofs.Squares.{table-at}
-use Rattle.quick.proofs.Fills.{cheapest-below, none-before, prices-are, prices-small}
+use Rattle.keyed.proofs.Fills.{cheapest-below, none-before, prices-are, prices-small}
 use Rattle.quick.proofs.step.start.Statement.{statement}
 use Rattle.quick.proofs.step.start.Tie as tie
 

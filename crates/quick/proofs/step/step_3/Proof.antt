@@ -10,8 +10,10 @@ use Rattle.lines.specs.Count.{count}
 use Rattle.ground.proofs.Wide.{back64}
 use Rattle.steps.specs.Steps as S
 use Rattle.ground.specs.View.{view}
-use Rattle.quick.specs.Ways.{starred, full, part}
-use Rattle.quick.specs.Asks.{ForStep3, OpensColumns}
+use Rattle.keyed.specs.Opening.{starred}
+use Rattle.quick.specs.Ways.{full, part}
+use Rattle.quick.specs.Asks.{ForStep3}
+use Rattle.keyed.specs.Asks.{OpensColumns}
 use borrow.Author.Needs.{needs}
 use Rattle.quick.proofs.step.step_3.Statement.{statement}
 use Rattle.quick.proofs.step.step_3.Tie as tie

@@ -14,9 +14,9 @@ use Rattle.lines.proofs.Signed.{within-zero}
 use Rattle.lines.proofs.Squares.{place-lt}
 use Rattle.steps.specs.Steps.{covering}
 use Rattle.ground.proofs.Wide.{back64}
-use Rattle.quick.specs.Keys.{row-of, column-of, names-zero}
+use Rattle.keyed.specs.Keys.{row-of, column-of, names-zero}
 use Rattle.quick.specs.Ways.{passes}
-use Rattle.quick.proofs.KeyBits.{wider}
+use Rattle.keyed.proofs.KeyBits.{wider}
 use Rattle.quick.proofs.WayLaws.{zero-near, bits-within, less-fits, less-within, price-told, told-reaches, told-covers}
 use Rattle.quick.proofs.step.step_4.Statement.{statement}
 use Rattle.quick.proofs.step.step_4.Tie as tie

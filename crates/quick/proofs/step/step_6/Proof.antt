@@ -9,7 +9,7 @@ use borrow.Author.Needs.{needs}
 use borrow.Author.Tests.{not-true, not-false}
 use Rattle.steps.specs.Steps.{lowered, raised}
 use Rattle.ground.proofs.Wide.{back64}
-use Rattle.quick.specs.Keys.{limit, value-of}
+use Rattle.keyed.specs.Keys.{limit, value-of}
 use Rattle.quick.specs.Ways.{change, blocked, spent, adjusts}
 use Rattle.quick.proofs.step.step_6.Statement.{statement}
 use Rattle.quick.proofs.step.step_6.Tie as tie
