@@ -48,44 +48,6 @@ pub struct Pairs {
 
 extern "C" {
     // each pointer with the number of its elements
-    fn serbihun_solve(
-        n: usize,
-        costs: *const u8,
-        costs_length: usize,
-        mask: *const u8,
-        mask_length: usize,
-        budget: u32,
-        working: *mut i64,
-        working_length: usize,
-        marks: *mut u8,
-        marks_length: usize,
-        columns: *mut u16,
-        columns_length: usize,
-        row_prices: *mut i64,
-        row_prices_length: usize,
-        column_prices: *mut i64,
-        column_prices_length: usize,
-    ) -> Answer;
-
-    fn serbihun_solve_by_steps(
-        n: usize,
-        costs: *const u8,
-        costs_length: usize,
-        mask: *const u8,
-        mask_length: usize,
-        budget: u32,
-        working: *mut i64,
-        working_length: usize,
-        marks: *mut u8,
-        marks_length: usize,
-        columns: *mut u16,
-        columns_length: usize,
-        row_prices: *mut i64,
-        row_prices_length: usize,
-        column_prices: *mut i64,
-        column_prices_length: usize,
-    ) -> Answer;
-
     fn serbihun_read_case(
         file: *const u8,
         file_length: usize,
@@ -121,7 +83,7 @@ extern "C" {
     ) -> Pairs;
 }
 
-/// One of the two solvers.
+/// One of the two solvers, by its entry.
 macro_rules! solver {
     ($name:ident, $entry:ident) => {
         pub fn $name(
@@ -131,6 +93,26 @@ macro_rules! solver {
             budget: u32,
             buffers: Buffers<'_>,
         ) -> Answer {
+            extern "C" {
+                fn $entry(
+                    n: usize,
+                    costs: *const u8,
+                    costs_length: usize,
+                    mask: *const u8,
+                    mask_length: usize,
+                    budget: u32,
+                    working: *mut i64,
+                    working_length: usize,
+                    marks: *mut u8,
+                    marks_length: usize,
+                    columns: *mut u16,
+                    columns_length: usize,
+                    row_prices: *mut i64,
+                    row_prices_length: usize,
+                    column_prices: *mut i64,
+                    column_prices_length: usize,
+                ) -> Answer;
+            }
             // SAFETY: every pointer comes from a slice with its length, so it is aligned and not null; the five that are
             // written are borrowed for writing. A cost in memory is the four bytes that the function reads.
             unsafe {
