@@ -6,10 +6,10 @@ use Prim.Native.Nat.{ℕ, _+_, _*_, _≤_, _<_}
 use native.Mathlib.Omega.{arith}
 use lib.ListN.{length, getD, replicate, length-append, length-replicate}
 use Rattle.lines.proofs.Tests.{cond-ind}
-use Rattle.storm_case.specs.Numbers.{AreBytes, u16-at, u32-at}
+use Rattle.storm_case.specs.Numbers.{AreBytes}
 use Rattle.storm_case.specs.Scan.{Scan, accepted, judged}
 use Rattle.storm_case.specs.Case.{hut-of, row-area, row-clock, column-area, column-clock}
-use Rattle.storm_case.proofs.FormatBytes.{small16}
+use Rattle.storm_case.proofs.FormatBytes.{small16, small32}
 use Rattle.storm_case.proofs.SaidLaws.{said-at}
 use Rattle.text.specs.Ascii.{ascii}
 use Rattle.text.proofs.NumberLaws.{decimal-short}
@@ -19,10 +19,6 @@ use Rattle.case_words.specs.Case.{row-line, event-line, row-lines, event
 use Rattle.case_words.specs.Unfit.{row-fits, event-fits, unfit-row, unfit-event, unfit-rows, unfit-events, unfit}
 
 -- ---- what a file says
-
-small32 : (file : List ℕ) (p : ℕ) → AreBytes file → u32-at file p < 4_294_967_296
-unfolding u32-at
-small32 file p bytes = omega (arith, small16 file p bytes, small16 file (p + 2) bytes)
 
 module _ (file : List ℕ) {s : Scan} (bytes : AreBytes file) (e : judged file ≡ accepted s) (small : s .n ≤ 64) where
   at : (f : List ℕ → Scan → ℕ → ℕ) (i : ℕ) → i < s .n → getD (told f file) i 0 ≡ f file s i

@@ -16,7 +16,8 @@ use Rattle.lines.proofs.Rows.{RowPassed, RowsPassed}
 use Rattle.lines.proofs.Bounds.{RowFits}
 use Rattle.judgement.specs.Numbers.{u16-at, u32-at}
 use Rattle.judgement.specs.Scan as D
-use Rattle.cells.specs.Cells.{row-area, row-clock, column-area, column-clock, clock-error, may-pair, pair-cost, mask-byte}
+use Rattle.judgement.specs.Says.{row-area, row-clock, column-area, column-clock}
+use Rattle.cells.specs.Cells.{clock-error, may-pair, pair-cost, mask-byte}
 use Rattle.judgement.specs.declared.scan.Scan.{Scan}
 use Rattle.judgement.specs.View.{view-scan}
 use Rattle.cells.specs.Asks.{Fillable}

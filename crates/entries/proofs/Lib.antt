@@ -1,2 +1,4 @@
 pub mod ListLaws
+pub mod PlaceLaws
+pub mod Narrow
 pub mod Lengths

@@ -1,3 +1,4 @@
 pub mod Numbers
 pub mod Scan
+pub mod Says
 pub mod View

@@ -7,9 +7,12 @@ use native.Mathlib.Omega.{arith}
 pub row-end : (n row : ℕ) → row < n → row * n + n ≤ n * n
 row-end n row l = omega (arith, mul-le-mul-right n l)
 
+pub cells-fit : {n : ℕ} → n ≤ 64 → n * n ≤ 4096
+cells-fit h = mul-le-mul h h
+
 pub record RowFits (n row : ℕ) : Type 0 where
   pub end : row * n + n ≤ n * n
   pub small : n * n ≤ 4096
 
 pub row-fits : (n row : ℕ) → n ≤ 64 → row < n → RowFits n row
-row-fits n row h l = record { end = row-end n row l; small = mul-le-mul h h }
+row-fits n row h l = record { end = row-end n row l; small = cells-fit h }

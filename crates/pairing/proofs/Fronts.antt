@@ -4,11 +4,12 @@ use mathlib.Core.Bool.{true}
 use Prim.Native.Nat.{ℕ, _*_, _≤_}
 use lib.Dec.{T}
 use lib.ListN.{length}
+use Rattle.lines.proofs.Bounds.{cells-fit}
 use Rattle.lines.proofs.Tests.{T-true, and-left, and-right}
 use Rattle.steps.specs.Refusal as R
 use Rattle.rules.proofs.Rooms.{is-room, room-of}
 use Rattle.storm_case.specs.Case.{has-cells}
-use Rattle.storm_case.proofs.Room.{cells-fit, Front, front-of, cells-are}
+use Rattle.storm_case.proofs.Room.{Front, front-of, cells-are}
 use Rattle.pairing.specs.Pair.{Loan, enough-room, fresh, front}
 
 pub record Fronts (n : ℕ) (l : Loan) : Type 0 where

@@ -18,7 +18,7 @@ use Rattle.pairing.specs.declared.Pairs.{Pairs}
 use Rattle.pairing.specs.Pair.{Loan, front, Solved}
 use Rattle.text.specs.Numbers.{signed}
 use Rattle.text.proofs.Lengths.{signed-short}
-use Rattle.listing.proofs.Lengths.{Narrow, Sums}
+use Rattle.entries.proofs.Narrow.{Narrow, Sums}
 use Rattle.price_list.proofs.SolverLaws.{row-price-near, column-price-near, working-near}
 use Rattle.price_list.proofs.Theorems.{difference, spare, event-of, row-price, event-price, AddsUp, zero-number}
 

@@ -17,7 +17,7 @@ use Rattle.pairing.specs.Pair.{Loan, fresh}
 use Rattle.storm_case.proofs.Decides.{cut-said}
 use Rattle.pairing.proofs.OnlyPairs.{OnlyAnswer, only-pairs, first-pairs}
 use Rattle.text.specs.Text.{put}
-use Rattle.listing.specs.List.{allowed-of, cell-line}
+use Rattle.spares.specs.Spares.{allowed-of, cell-line}
 use Rattle.case_words.specs.Case.{told, case-lines}
 use Rattle.price_list.specs.Report.{case-above, list-text, block-text, text-of, Reported}
 

@@ -19,7 +19,8 @@ use Rattle.text.proofs.PutLaws.{holds-whole}
 use Rattle.text.proofs.Lengths.{refusal-short}
 use Rattle.case_words.proofs.Lengths.{hut-small, case-short, unfit-short}
 use Rattle.listing.proofs.Lengths as listing
-use Rattle.listing.proofs.Lengths.{pairing-short, least-short}
+use Rattle.listing.proofs.Lengths.{pairing-short}
+use Rattle.spares.proofs.Lengths.{least-short}
 use Rattle.shortage.proofs.Lengths as shortage
 use Rattle.shortage.proofs.Lengths.{block-short}
 use Rattle.price_list.specs.Report.{huts, case-above, list-text, block-text, text-of, Reported}

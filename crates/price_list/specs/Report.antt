@@ -16,7 +16,8 @@ use Rattle.text.specs.Numbers.{refusal}
 use Rattle.case_words.specs.Case.{told, case-lines}
 use Rattle.case_words.specs.Unfit.{unfit}
 use Rattle.listing.specs.List as listing
-use Rattle.listing.specs.List.{pairing-lines, least-lines}
+use Rattle.listing.specs.List.{pairing-lines}
+use Rattle.spares.specs.Spares.{least-lines}
 use Rattle.shortage.specs.Block as shortage
 use Rattle.shortage.specs.Block.{block}
 

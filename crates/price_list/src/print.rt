@@ -54,7 +54,7 @@ pub(crate) fn put_list(
         out,
         after_case,
     );
-    listing::put_least(
+    spares::put_least(
         short,
         n,
         total,

@@ -1,4 +1,2 @@
-pub mod HutLaws
-pub mod CaseFace
 pub mod Theorems
 pub mod Only

@@ -11,9 +11,9 @@ use Rattle.storm_case.specs.declared.Case.{Case}
 use Rattle.records.specs.Records.{found}
 use Rattle.storm_case.specs.Case.{read, hut}
 use Rattle.storm_case.proofs.Only.{only-read}
-use Rattle.serbihun.specs.declared.case.Record.{Record}
 use Rattle.cost_bytes.specs.Bytes.{decoded}
-use Rattle.serbihun.specs.Case.{hut-number, record-at}
+use Rattle.case_face.specs.declared.Record.{Record}
+use Rattle.case_face.specs.Case.{hut-number, record-at}
 
 -- the solver's answer, and every value, mark, column and price that was lent
 pub only-solve : (n : ℕ) (costs mask : List ℕ) (budget : ℕ) {before : Buffers} {a a′ : Answer} {after after′ : Buffers}

@@ -5,7 +5,8 @@ use Prim.Native.Nat.{ℕ}
 use Rattle.steps.proofs.Theorems.{only-answer}
 use Rattle.pairing.specs.declared.Pairs.{Pairs}
 use Rattle.pairing.specs.Pair.{Loan, PairPromise}
-use Rattle.serbihun.specs.Pair.{huts-beside, PairedWithHuts}
+use Rattle.case_face.specs.Case.{huts-beside}
+use Rattle.serbihun.specs.Pair.{PairedWithHuts}
 use Rattle.pairing.proofs.OnlyPairs as given
 
 pub only-pairs : (file : List ℕ) (before : Loan) {p p′ : Pairs} {after after′ : Loan}

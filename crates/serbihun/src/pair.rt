@@ -1,19 +1,8 @@
 // The C face of a case read and solved: `serbihun_pair_case`.
-ghost use mathlib.Core.Path.{_≡_};
 ghost use Rattle.steps.specs.Lent.{buffers};
 ghost use Rattle.pairing.specs.Pair.{loan};
-ghost use Rattle.serbihun.specs.Pair.{huts-beside, PairedWithHuts};
+ghost use Rattle.serbihun.specs.Pair.{PairedWithHuts};
 use pairing::Pairs;
-
-// The huts of the rows, but where the room was wrong: the file was not looked at then.
-fn put_huts(file: &[u8], number: u32, huts: &mut [u16])
-    ensures { λ _. ⌜ now (huts .exit) ≡ huts-beside (now (file .entry)) number (now (huts .entry)) ⌝ }
-{
-    if number == 20 {
-        return;
-    }
-    storm_case::huts_of(file, huts);
-}
 
 // Pairs the fragments of a file with its events: `pairing::pair_case`, and the hut of every row.
 #[no_mangle]
@@ -43,6 +32,6 @@ pub extern "C" fn serbihun_pair_case(
         row_prices,
         column_prices,
     );
-    put_huts(file, pairs.number, huts);
+    case_face::put_huts(file, pairs.number, huts);
     pairs
 }

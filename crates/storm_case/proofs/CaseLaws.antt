@@ -9,6 +9,7 @@ use lib.ListN.{length, getD, take, drop}
 use lib.Seq.{getD-take}
 use borrow.Author.Tests.{lt-ltb, le-ltb}
 use Rattle.lines.specs.Square.{square}
+use Rattle.lines.proofs.Bounds.{cells-fit}
 use Rattle.storm_case.specs.declared.Case.{Case}
 use Rattle.storm_case.specs.declared.Hut.the-variants.{At, Absent}
 use Rattle.judgement.specs.declared.scan.Judged.{Judged}
@@ -19,22 +20,12 @@ use Rattle.judgement.specs.Scan as D
 use Rattle.judgement.specs.View.{view-scan, view-judged, Agrees}
 use Rattle.cells.specs.Asks.{Fillable}
 use Rattle.storm_case.specs.Case.{hut-of, pair-cost, mask-byte, filled, case, case-of, has-cells, read, hut-in, hut}
-use Rattle.storm_case.proofs.Room.{cells-fit, Front, front-of, cells-are}
-use Rattle.judgement.proofs.ScanLaws.{accepted-filled}
-use Rattle.judgement.proofs.ViewLaws.{rows-taken, columns-taken}
+use Rattle.storm_case.proofs.Room.{Front, front-of, cells-are}
+use Rattle.judgement.proofs.Verdict.{judged-is, all-read}
 
--- ---- the verdict of the code's scan
+-- ---- the room of an accepted file's cells
 
 module _ (file : List ℕ) {s : Scan} {fragments events : List ℕ} (agrees : Agrees file (D.judged file) s fragments events) where
-  pub judged-is : {j : Judged} → s .judged ≡ j → D.judged file ≡ view-judged j (view-scan s fragments events)
-  judged-is e = sym (agrees .exact) ∙ ap (λ j. view-judged j (view-scan s fragments events)) e
-
-  -- the counts of an accepted file are n
-  pub all-read : s .judged ≡ Accepted → (s .fragments ≡ s .n) × (s .events ≡ s .n)
-  all-read e =
-      let a = accepted-filled file (judged-is e) in
-      (sym (rows-taken (agrees .consistent)) ∙ a .rows, sym (columns-taken (agrees .consistent)) ∙ a .columns)
-
   -- a square of n rows has its room in the front of a buffer
   pub cells-front : {A : Type 0} (xs : List A) → length xs ≡ 4096 → Front (s .n * s .n) xs
   cells-front xs l = front-of (cells-fit (agrees .consistent .small)) l
@@ -42,7 +33,7 @@ module _ (file : List ℕ) {s : Scan} {fragments events : List ℕ} (agrees : Ag
   pub fillable : {A B : Type 0} (costs : List A) (mask : List B) → s .judged ≡ Accepted → has-cells (length costs) (length mask) ≡ true
       → Fillable file s fragments events (take (s .n * s .n) costs) (take (s .n * s .n) mask)
   fillable costs mask e room =
-      let a = all-read e in
+      let a = all-read file agrees e in
       let long = cells-are _ _ room in
       record {
         consistent = agrees .consistent;

@@ -16,7 +16,7 @@ use Rattle.records.proofs.Cuts.{cut-found}
 use Rattle.judgement.specs.Numbers.{u16-at, u32-at}
 use Rattle.judgement.specs.Scan as D
 use Rattle.storm_case.specs.Case.{case, case-of, has-cells, read, hut-in, hut}
-use Rattle.storm_case.specs.Said.{said-in, said}
+use Rattle.said.specs.Said.{said-in, said}
 use Rattle.judgement.proofs.OneRecord.{Does, refuses, sizes, adds-row, adds-column, ends, record-does}
 use Rattle.judgement.proofs.ScanLaws.{stays-refused, stays-accepted, never-more}
 

@@ -82,7 +82,7 @@ pub small16 : (bytes : List ℕ) (p : ℕ) → AreBytes bytes → u16-at bytes p
 unfolding u16-at
 small16 bytes p h = omega (arith, h p, h (p + 1))
 
-small32 : (bytes : List ℕ) (p : ℕ) → AreBytes bytes → u32-at bytes p < 4_294_967_296
+pub small32 : (bytes : List ℕ) (p : ℕ) → AreBytes bytes → u32-at bytes p < 4_294_967_296
 unfolding u32-at
 small32 bytes p h = omega (arith, small16 bytes p h, small16 bytes (p + 2) h)
 

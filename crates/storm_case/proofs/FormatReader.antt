@@ -11,6 +11,7 @@ use lib.ListN.{length, drop, length-append, length-drop, List·getD-append}
 use lib.Seq.{drop-at}
 use borrow.Author.Tests.{lt-ltb, le-ltb, eq-eqb}
 use Rattle.lines.specs.Square.{cell, square}
+use Rattle.lines.proofs.Bounds.{cells-fit}
 use Rattle.lines.proofs.Squares.{place-lt, length-square, square-at}
 use Rattle.lines.proofs.Tests.{T-false, and-left, and-right}
 use Rattle.storm_case.specs.declared.Case.{Case}
@@ -20,7 +21,6 @@ use Rattle.judgement.specs.Scan as D
 use Rattle.storm_case.specs.Case.{clock-error, may-pair, pair-cost, mask-byte, filled, case, case-of, has-cells, read, hut-in, hut}
 use Rattle.storm_case.specs.Format.{Fragment, Event, Line, encode, WellFormed, IsCase, row-at, column-at, Matches}
 use Rattle.storm_case.specs.Format.{Allowed, clocks-apart, PairIs, ReadAs}
-use Rattle.storm_case.proofs.Room.{cells-fit}
 use Rattle.judgement.proofs.ScanLaws.{never-more}
 use Rattle.storm_case.proofs.Decides.{refused-early}
 use Rattle.storm_case.proofs.FormatLaws.{accepted-exactly, well-formed-accepted}

@@ -1,7 +1,7 @@
 pub use Rattle.judgement.proofs.ScanLaws
+pub use Rattle.said.proofs.SaidLaws
 pub mod Room
 pub mod CaseLaws
-pub mod SaidLaws
 pub mod Samples
 pub mod Decides
 pub mod Only

@@ -7,7 +7,7 @@ use Rattle.storm_case.specs.declared.Case.{Case}
 use Rattle.storm_case.specs.declared.Hut.{Hut}
 use Rattle.judgement.specs.Scan.{Scan}
 use Rattle.storm_case.specs.Case.{read, hut}
-use Rattle.storm_case.specs.Said.{said}
+use Rattle.said.specs.Said.{said}
 
 -- each promise is an equation, so one law serves all
 only : {A : Type 0} {r s : A} (said : A) → r ≡ said → s ≡ said → r ≡ s

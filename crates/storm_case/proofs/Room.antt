@@ -2,8 +2,7 @@
 use mathlib.Core.Path.{_≡_, sym, _∙_}
 use mathlib.Core.Bool.{Bool, true, false, not}
 use mathlib.Core.List.{List}
-use Prim.Native.Nat.{ℕ, _*_, _≤_}
-use native.Mathlib.Nat.{mul-le-mul}
+use Prim.Native.Nat.{ℕ, _≤_}
 use native.Mathlib.Omega.{arith}
 use lib.Dec.{T, eqb, eqb→eq}
 use lib.ListN.{length, take}
@@ -21,9 +20,6 @@ pub test-failed : {b t : Bool} → b ≡ t → not b ≡ true → t ≡ false
 test-failed e n = sym e ∙ not-true _ n
 
 -- ---- one buffer
-
-pub cells-fit : {n : ℕ} → n ≤ 64 → n * n ≤ 4096
-cells-fit h = mul-le-mul h h
 
 pub record Front {A : Type 0} (k : ℕ) (xs : List A) : Type 0 where
   pub inside : k ≤ length xs

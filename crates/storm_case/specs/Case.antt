@@ -1,4 +1,4 @@
--- What the reader gives back. What an accepted file says of each row, column and pair stands in crate cells, and is passed on here.
+-- What the reader gives back. What an accepted file says of each row and column stands in crate judgement, what of each pair in crate cells; both are passed on here.
 use mathlib.Core.Bool.{Bool, cond, _&&_}
 use mathlib.Core.List.{List, _++_}
 use Prim.Native.Nat.{ℕ, _*_}
@@ -10,7 +10,8 @@ use Rattle.storm_case.specs.declared.Case.{Case}
 use Rattle.storm_case.specs.declared.Hut.{Hut}
 use Rattle.storm_case.specs.declared.Hut.the-variants.{At, Absent}
 use Rattle.judgement.specs.Scan.{Judged, more, refused, accepted, judged}
-unfoldable pub use Rattle.cells.specs.Cells.{hut-of, row-area, row-clock, column-area, column-clock, clock-error, may-pair, pair-cost, mask-byte}
+unfoldable pub use Rattle.judgement.specs.Says.{hut-of, row-area, row-clock, column-area, column-clock}
+unfoldable pub use Rattle.cells.specs.Cells.{clock-error, may-pair, pair-cost, mask-byte}
 
 -- the first n * n cells written, the rest as it was
 unfoldable pub filled : {A : Type 0} → ℕ → (ℕ → ℕ → A) → List A → List A

@@ -1,6 +1,5 @@
 pub use Rattle.judgement.specs.Numbers
 pub use Rattle.judgement.specs.Scan
-pub mod Asks
+pub use Rattle.said.specs.Said
 pub mod Case
 pub mod Format
-pub mod Said

@@ -3,9 +3,6 @@ ghost use mathlib.Core.Path.{_≡_};
 ghost use Rattle.storm_case.specs.Case.{case, has-cells, read, hut as Case·hut};
 use judgement::numbers;
 use judgement::scan;
-
-mod said;
-
 pub use records::Found;
 pub use records::body;
 pub use records::find;

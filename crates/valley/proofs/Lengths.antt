@@ -17,7 +17,7 @@ use Rattle.storm_case.specs.Case.{row-area, column-area, clock-error, may-pair,
 use Rattle.pairing.specs.Pair.{clock-cost}
 use Rattle.storm_case.proofs.FormatBytes.{small16}
 use Rattle.storm_case.proofs.SaidLaws.{said-at}
-use Rattle.text.specs.Numbers.{sign, signed, refusal}
+use Rattle.text.specs.Numbers.{sign, signed}
 use Rattle.text.proofs.NumberLaws.{decimal-short}
 use Rattle.valley.specs.Lines.{row-line, row-lines, total-line}
 use Rattle.valley.specs.Report.{huts}
@@ -64,9 +64,3 @@ module _ (file : List ℕ) (s : Scan) (columns : List ℕ) (small : s .n ≤ 64)
   pub short-total-line : length (total-line (total (clock-cost file s) (s .n) columns)) ≤ 18
   unfolding total-line
   short-total-line = simp length-append (omega (arith, short-total))
-
--- ---- the refusal
-
-pub short-refusal : (number place : ℕ) → number ≤ 26 → place ≤ 1032 → length (refusal number place) ≤ 19
-unfolding refusal
-short-refusal number place h l = simp length-append (omega (arith, decimal-short 1 number (omega arith), decimal-short 3 place (omega arith)))

@@ -17,10 +17,11 @@ use Rattle.storm_case.proofs.Decides.{cut-said, refused-early}
 use Rattle.pairing.proofs.OnlyPairs.{OnlyAnswer, only-pairs, first-pairs}
 use Rattle.text.specs.Text.{put}
 use Rattle.text.proofs.PutLaws.{holds-whole}
+use Rattle.text.proofs.Lengths.{refusal-short}
 use Rattle.valley.specs.Lines.{row-lines, lines}
 use Rattle.valley.specs.Report.{huts, Reported}
 use Rattle.valley.proofs.LineLaws.{lines-paired, lines-none, lines-refused}
-use Rattle.valley.proofs.Lengths.{short-rows, short-total-line, short-refusal}
+use Rattle.valley.proofs.Lengths.{short-rows, short-total-line}
 
 -- Two reports of a file are equal: the count, and every byte of the buffer. Of the solver only its promise is known here: see `Closed`.
 pub only-report : OnlyAnswer → {file out : List ℕ} {r r′ : ℕ} {after after′ : List ℕ}
@@ -77,7 +78,7 @@ module _ (file : List ℕ) (bytes : AreBytes file) {p : Pairs} {filled : Loan} w
           let at : p .place ≡ place = ap (λ (q : Pairs). q .place) given in
           let r = refused-early file e in
           rw (lines-refused (huts file) p (filled .rest .columns) (λ z. omega arith) (λ z. omega arith), n, at)
-          (omega (arith, short-refusal number place (r .1) (r .2)))
+          (omega (arith, refusal-short number place (r .1) (r .2)))
 
 -- what is written is the whole text
 pub whole-text : (file : List ℕ) → AreBytes file → {out : List ℕ} {r : ℕ} {after : List ℕ} (x : Reported file out r after) → 1024 ≤ length out

@@ -3,7 +3,7 @@ use native.Mathlib.Omega.{arith}
 use borrow.Author.Needs.{needs}
 use Rattle.steps.specs.Lent.{buffers}
 use Rattle.pairing.specs.Pair.{Loan, loan, front}
-use Rattle.storm_case.proofs.Room.{cells-fit}
+use Rattle.lines.proofs.Bounds.{cells-fit}
 use Rattle.pairing.proofs.Fronts.{Fronts, fronts}
 use Rattle.pairing.proofs.PairLaws.{solved-front}
 use Rattle.pairing.proofs.solve_cells.Statement.{statement}

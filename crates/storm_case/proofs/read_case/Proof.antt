@@ -1,7 +1,8 @@
 -- `read_case` meets its contract, by the room that is lent and by the verdict.
 use native.Mathlib.Omega.{arith}
 use borrow.Author.Needs.{needs}
-use Rattle.storm_case.proofs.Room.{cells-fit, test-passed, test-failed, cells-are}
+use Rattle.lines.proofs.Bounds.{cells-fit}
+use Rattle.storm_case.proofs.Room.{test-passed, test-failed, cells-are}
 use Rattle.storm_case.proofs.CaseLaws.{cells-front, fillable, no-room, read-more, read-refused, read-accepted}
 use Rattle.storm_case.proofs.read_case.Statement.{statement}
 use Rattle.storm_case.proofs.read_case.Tie as tie
