@@ -3,4 +3,3 @@ pub mod View
 pub mod Least
 pub mod Prices
 pub mod Good
-pub mod Ends

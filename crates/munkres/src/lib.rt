@@ -4,7 +4,6 @@ ghost use Rattle.steps.specs.Lent.{task, buffers};
 ghost use Rattle.steps.specs.Refusal.{accepted, verdict};
 ghost use Rattle.steps.specs.Outcome.{Outcome};
 ghost use Rattle.steps.specs.Promise.{Promise};
-use ground::answer;
 use rules::Verdict;
 use steps::Answer;
 
@@ -42,7 +41,7 @@ fn solve(
         row_prices,
         column_prices,
     );
-    answer::finish(n, costs, ended, marks, columns)
+    answers::finish(n, costs, ended, marks, columns)
 }
 
 // Pairs n rows with n columns, each row with an allowed column of its own, at least total cost.
@@ -84,6 +83,6 @@ pub fn solve_assignment(
             row_prices,
             column_prices,
         ),
-        _ => answer::stopped(n, verdict),
+        _ => answers::stopped(n, verdict),
     }
 }

@@ -8,7 +8,6 @@ ghost use Rattle.steps.specs.Promise.{Promise};
 ghost use Rattle.ground.specs.View.{view};
 ghost use Rattle.ground.specs.Good.{Came};
 ghost use Rattle.quick.specs.Asks.{Simulates};
-use ground::answer;
 use ground::run::Run;
 use keyed::stars;
 use keyed::values;
@@ -106,7 +105,7 @@ fn solve(
         &mut cheapest,
         &mut key,
     );
-    answer::finish(n, costs, ended, marks, columns)
+    answers::finish(n, costs, ended, marks, columns)
 }
 
 // Pairs n rows with n columns, each row with an allowed column of its own, at least total cost.
@@ -148,6 +147,6 @@ pub fn solve_assignment(
             row_prices,
             column_prices,
         ),
-        _ => answer::stopped(n, verdict),
+        _ => answers::stopped(n, verdict),
     }
 }

@@ -1,6 +1,6 @@
 -- `solve` meets its contract: the start is good, the run comes to an end, and the end is given back.
 use borrow.Author.Needs.{needs}
-use Rattle.ground.proofs.CallLaws.{start-asks, good-start, working-kept, finish-asks, solved}
+use Rattle.answers.proofs.CallLaws.{start-asks, good-start, working-kept, finish-asks, solved}
 use Rattle.munkres.proofs.solve.Statement.{statement}
 use Rattle.munkres.proofs.solve.Tie as tie
 

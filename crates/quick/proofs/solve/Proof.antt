@@ -2,7 +2,7 @@
 use mathlib.Core.Path.{refl}
 use native.Mathlib.Omega.{arith}
 use borrow.Author.Needs.{needs}
-use Rattle.ground.proofs.CallLaws.{start-asks, frame, frame-limit, kept-start, finish-asks, solved}
+use Rattle.answers.proofs.CallLaws.{start-asks, frame, frame-limit, kept-start, finish-asks, solved}
 use Rattle.quick.proofs.solve.Statement.{statement}
 use Rattle.quick.proofs.solve.Tie as tie
 

@@ -1,7 +1,7 @@
 -- `solve_assignment` keeps its promise: the judgement stops the call, or it is solved.
 use borrow.Author.Needs.{needs}
 use Rattle.steps.proofs.Promised.{promised}
-use Rattle.ground.proofs.CallLaws.{accepted-verdict, dead-inside, stopped-promise}
+use Rattle.answers.proofs.CallLaws.{accepted-verdict, dead-inside, stopped-promise}
 use Rattle.quick.proofs.solve_assignment.Statement.{statement}
 use Rattle.quick.proofs.solve_assignment.Tie as tie
 

@@ -39,13 +39,13 @@ use Rattle.rules.specs.declared.Verdict.{Verdict}
 use Rattle.rules.specs.declared.Verdict.the-variants.{Refused, Dead, Accepted}
 use Rattle.rules.proofs.Verdict.{the-type}
 use Rattle.rules.specs.View.{view-verdict}
 use Rattle.ground.specs.declared.run.Next.{Next}
 use Rattle.ground.specs.declared.run.Next.the-variants.{Step3, Step4, Step5, Step6, Paired, NoPairing, Unfinished}
 use Rattle.ground.specs.View.{view-next}
 use Rattle.ground.specs.Square.{InWord, Flags}
 use Rattle.ground.specs.Good.{ForStart, Frame, Kept, Good, Came}
-use Rattle.ground.specs.Ends.{Inside, stop, Finishes}
+use Rattle.answers.specs.Ends.{Inside, stop, Finishes}
 use Rattle.ground.proofs.GoodLaws.{sound-at}
 
 -- ---- what an end gives back
 

@@ -6,14 +6,14 @@ use Prim.Native.Nat.{ℕ}
 use types.Run.{OneOf}
 use denote.Enum.Declared.{tagOf}
 use native.Mathlib.Omega.{arith}
 use Rattle.ground.proofs.run.Next.{the-type}
 use mir.Syntax.{w64}
 use mir.Facts.{toZ-ofZ}
 use borrow.Author.Needs.{needs}
 use Rattle.ground.specs.View.{view-next}
-use Rattle.ground.proofs.CallLaws.{given-paired, given-blocked, given-spent}
-use Rattle.ground.proofs.answer.finish.Statement.{statement}
-use Rattle.ground.proofs.answer.finish.Tie as tie
+use Rattle.answers.proofs.CallLaws.{given-paired, given-blocked, given-spent}
+use Rattle.answers.proofs.finish.Statement.{statement}
+use Rattle.answers.proofs.finish.Tie as tie
 
 enum-told : tie.Need-enum-told
 enum-told c = search needs

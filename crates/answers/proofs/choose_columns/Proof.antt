@@ -13,9 +13,9 @@ use Rattle.lines.proofs.Loops.{Passed, passed-none, passed-store, filled-all}
 use Rattle.lines.proofs.Squares.{place-lt}
 use Rattle.steps.specs.Lent.{cost-at}
 use Rattle.steps.specs.Steps.{star-in-row}
-use Rattle.ground.proofs.Sums.{Added, added, total-table}
-use Rattle.ground.proofs.answer.choose_columns.Statement.{statement}
-use Rattle.ground.proofs.answer.choose_columns.Tie as tie
+use Rattle.answers.proofs.Sums.{Added, added, total-table}
+use Rattle.answers.proofs.choose_columns.Statement.{statement}
+use Rattle.answers.proofs.choose_columns.Tie as tie
 
 -- what row i's star costs
 abbrev star-cost : ℕ → List ℤ → List ℕ → ℕ → ℤ

@@ -1,4 +1,4 @@
-// What a call gives back: the answer record, and the chosen columns.
+// What a call gives back, in both solvers: the answer record, and the chosen columns. Only the solvers call it, so it may have a `requires`.
 ghost use mathlib.Core.Path.{_≡_};
 ghost use mathlib.Core.Option.{some, Option·map};
 ghost use Prim.Native.Nat.{_+_, _*_, _<_};
@@ -9,17 +9,17 @@ ghost use Rattle.steps.specs.Lent.{cost-at};
 ghost use Rattle.steps.specs.Steps.{end-of, star-in-row};
 ghost use Rattle.steps.specs.Outcome.{no-run, given, answer as Outcome·answer};
 ghost use Rattle.rules.specs.View.{view-verdict};
 ghost use Rattle.ground.specs.View.{view, view-next};
-ghost use Rattle.ground.specs.Ends.{Inside, stop, Chooses, Finishes};
-use crate::marks;
-use crate::run::Next;
-use crate::run::Run;
-use crate::sets;
+ghost use Rattle.answers.specs.Ends.{Inside, stop, Chooses, Finishes};
+use ground::marks;
+use ground::run::Next;
+use ground::run::Run;
+use ground::sets;
 use rules::Verdict;
 use steps::Answer;
 
 // The column of each row's star is chosen. Returns the total.
-pub fn choose_columns(n: usize, costs: &[i32], marks: &[u8], columns: &mut [u16]) -> i64
+fn choose_columns(n: usize, costs: &[i32], marks: &[u8], columns: &mut [u16]) -> i64
     requires { ⌜ Chooses n (now costs) (now marks) (now columns) ⌝ }
     ensures { λ r. ⌜ (now (columns .exit) ≡ table (star-in-row n (now (marks .entry))) n) × (r ≡ total (cost-at n (now (costs .entry))) n (table (star-in-row n (now (marks .entry))) n)) ⌝ }
 {
@@ -34,7 +34,7 @@ pub fn choose_columns(n: usize, costs: &[i32], marks: &[u8], columns: &mut [u16]
     sum
 }
 
-pub fn answer(number: u32, total: i64, run: Run, rows: u64, columns: u64) -> Answer
+fn answer(number: u32, total: i64, run: Run, rows: u64, columns: u64) -> Answer
     ensures { λ r. ⌜ r ≡ Outcome·answer number 0 total (view run) rows columns ⌝ }
 {
     Answer {

@@ -4,9 +4,9 @@ use native.Mathlib.Omega.{arith}
 use Prim.Native.Nat.{_≤_, _<_}
 use borrow.Author.Needs.{needs}
 use Rattle.rules.specs.View.{view-verdict}
-use Rattle.ground.specs.Ends.{stop}
-use Rattle.ground.proofs.answer.stopped.Statement.{statement}
-use Rattle.ground.proofs.answer.stopped.Tie as tie
+use Rattle.answers.specs.Ends.{stop}
+use Rattle.answers.proofs.stopped.Statement.{statement}
+use Rattle.answers.proofs.stopped.Tie as tie
 
 enum-known-verdict : tie.Need-enum-known-verdict
 enum-known-verdict c = search needs
