@@ -11,8 +11,8 @@ use lib.ListN.{set}
 use Rattle.steps.specs.Steps as S
 use Rattle.steps.specs.Steps.{Run, star-in-row, zero-in-column, zero-column, step4}
 use Rattle.steps.proofs.Turns.{zero-found}
-use Rattle.munkres.specs.declared.coverage.Cell.the-variants.{At, Nothing}
-use Rattle.munkres.specs.Cell.{found-zero}
+use Rattle.matrices.specs.declared.coverage.Cell.the-variants.{At, Nothing}
+use Rattle.matrices.specs.Cell.{found-zero}
 
 module _ (n : ℕ) (ok : ℕ → ℕ → Bool) (working : List ℤ) (r : Run) where
   j₀ : ℕ

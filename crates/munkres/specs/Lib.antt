@@ -1,4 +1,1 @@
-pub mod Cell
-pub mod Path
-pub mod Prices
 pub mod ForSteps

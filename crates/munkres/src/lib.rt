@@ -7,11 +7,7 @@ ghost use Rattle.steps.specs.Promise.{Promise};
 use rules::Verdict;
 use steps::Answer;
 
-mod coverage;
-mod mark_matrix;
-mod path;
 mod step;
-mod weight_matrix;
 
 // The steps on an input that rules 1 to 5 and the row test let pass.
 fn solve(

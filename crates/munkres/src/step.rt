@@ -9,10 +9,6 @@ ghost use Rattle.ground.specs.Square.{Grid};
 ghost use Rattle.ground.specs.View.{view};
 ghost use Rattle.ground.specs.Good.{ForStart, Good, Came};
 ghost use Rattle.munkres.specs.ForSteps.{ForStep3, ForStep4, ForStep5, ForStep6};
-use crate::coverage;
-use crate::mark_matrix;
-use crate::path;
-use crate::weight_matrix;
 use ground::marks;
 use ground::prices;
 use ground::prices::Least;
@@ -20,6 +16,10 @@ use ground::run;
 use ground::run::Next;
 use ground::run::Run;
 use ground::sets;
+use matrices::coverage;
+use matrices::mark_matrix;
+use matrices::path;
+use matrices::weight_matrix;
 
 // ---- steps 1 and 2
 

@@ -1,7 +1,7 @@
 -- `munkres::step_5` meets its contract: each callee ensures one part of `step5`, and what `find_path` recorded can be flipped.
 use borrow.Author.Needs.{needs}
 use Rattle.steps.specs.Steps.{step5}
-use Rattle.munkres.proofs.Walk.{path-recorded}
+use Rattle.matrices.proofs.Walk.{path-recorded}
 use Rattle.munkres.proofs.step.step_5.Statement.{statement}
 use Rattle.munkres.proofs.step.step_5.Tie as tie
 

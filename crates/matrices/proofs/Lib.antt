@@ -1,0 +1,4 @@
+pub mod Flags
+pub mod Zeros
+pub mod Rows
+pub mod Walk
