@@ -15,10 +15,10 @@ use Rattle.ground.specs.Good.{Adjusts}
 use Rattle.ground.specs.declared.run.Next.the-variants.{Step3, Step4, Step5, Step6}
 use Rattle.ground.proofs.GoodLaws.{more-primes, more-augmentations, adjusts}
 use Rattle.keyed.specs.Keys.{limit, value-of}
-use Rattle.quick.specs.Ways.{change}
-use Rattle.quick.specs.Asks.{ForStep3, ForStep4, ForStep5, ForStep6}
+use Rattle.quick_steps.specs.Ways.{change}
+use Rattle.quick_steps.specs.Asks.{ForStep3, ForStep4, ForStep5, ForStep6}
 use Rattle.quick.specs.Shown.{Held, shown}
-use Rattle.quick.specs.declared.step.State.{State}
+use Rattle.quick_steps.specs.declared.State.{State}
 use Rattle.quick.proofs.Choose.{some-open, least-found}
 use Rattle.quick.proofs.TableLaws.{above, safe}
 use Rattle.quick.proofs.HeldLaws.{searching-at, safe-during, names}

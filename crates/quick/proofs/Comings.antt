@@ -16,9 +16,10 @@ use Rattle.ground.specs.Good.{Frame, Kept, Good, Came}
 use Rattle.ground.proofs.GoodLaws.{sound-at}
 use Rattle.ground.proofs.Arms.{Coming}
 use Rattle.keyed.specs.Asks.{WritesWorking}
-use Rattle.quick.specs.Shown.{Started, Holds, Held, shown, Reached}
+use Rattle.quick_steps.specs.Start.{Started}
+use Rattle.quick.specs.Shown.{Holds, Held, shown, Reached}
 use Rattle.keyed.specs.Written.{working-of, marks-of}
-use Rattle.quick.specs.declared.step.State.{State}
+use Rattle.quick_steps.specs.declared.State.{State}
 use Rattle.quick.proofs.Resumes.{held-at-3}
 use Rattle.quick.proofs.ShownLaws.{shown-is}
 use Rattle.quick.proofs.TableLaws.{within-more, row-small, column-small}

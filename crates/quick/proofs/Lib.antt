@@ -3,7 +3,6 @@ pub mod Adjusts
 pub mod Keyed
 pub mod LineLaws
 pub mod PathLaws
-pub mod WayLaws
 pub mod TableLaws
 pub mod Resumes
 pub mod HeldLaws

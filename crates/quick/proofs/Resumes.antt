@@ -13,9 +13,9 @@ use Rattle.steps.specs.Going.{Search}
 use Rattle.ground.specs.View.{view}
 use Rattle.ground.specs.declared.run.Run.{Run}
 use Rattle.ground.proofs.GoodLaws.{sound-at}
-use Rattle.quick.specs.Ways.{TakenUp}
+use Rattle.quick_steps.specs.Ways.{TakenUp}
 use Rattle.quick.specs.Shown.{Lines, During, Searching, Tabled, Held}
-use Rattle.quick.specs.declared.step.State.{State}
+use Rattle.quick_steps.specs.declared.State.{State}
 use Rattle.quick.proofs.TableLaws.{told-own, shut-own, column-small, free-of}
 
 module _ {n : ℕ} {costs : List ℤ} {mask : List ℕ} {budget : ℕ} {m : Machine} {keys : List ℤ} (h : Tabled n costs mask budget m keys) where

@@ -16,11 +16,11 @@ use Rattle.ground.specs.View.{view, view-next}
 use Rattle.ground.specs.declared.run.Next.the-variants.{Step3, Step4, Step5, Step6}
 use Rattle.ground.proofs.Arms.{arm-end}
 use Rattle.keyed.specs.Keys.{limit}
-use Rattle.quick.specs.Ways.{Primed, passes, covers, reaches, Adjusted, blocked, spent, adjusts, Crossed, full, part}
+use Rattle.quick_steps.specs.Ways.{Primed, passes, covers, reaches, Adjusted, blocked, spent, adjusts, Crossed, full, part}
 use Rattle.keyed.specs.Flipping.{flipped}
 use Rattle.quick.specs.Shown.{Held, shown, Turned}
-use Rattle.quick.specs.declared.step.State.{State}
-use Rattle.quick.proofs.WayLaws.{zero-near, zero-below, zero-above}
+use Rattle.quick_steps.specs.declared.State.{State}
+use Rattle.quick_steps.proofs.WayLaws.{zero-near, zero-below, zero-above}
 use Rattle.quick.proofs.StepHeld.{none-made, above-made, held-none, reaches-made, held-reaches, covers-made, held-covers, blocked-made, held-blocked, spent-made, held-spent, adjusts-made, held-adjusts, flips-made, held-flips, full-made, held-full, part-made, held-part}
 use Rattle.quick.proofs.HeldLaws.{searching-at}
 use Rattle.quick.proofs.ShownLaws.{shown-is}

@@ -5,7 +5,7 @@ use mathlib.Core.List.{List}
 use Prim.Native.Nat.{ℕ, _≤_, _<_}
 use lib.IntN.{ℤ, pos, _-ℤ_}
 use lib.ListN.{length, getD}
-use Rattle.lines.specs.Square.{square, table as table-of}
+use Rattle.lines.specs.Square.{square}
 use Rattle.lines.specs.Bounds.{Within}
 use Rattle.steps.specs.Lent.{most-cost, allows, cost-at}
 use Rattle.steps.specs.Steps.{Machine, machine, star-in-row, star-in-column, prime-in-row}
@@ -14,11 +14,10 @@ use Rattle.ground.specs.Good.{Frame, Kept, Came}
 use Rattle.keyed.specs.Keys.{limit, entry}
 use Rattle.keyed.specs.Best.{Keys, Best}
 use Rattle.steps.specs.Steps as S
-use Rattle.steps.specs.Outcome.{no-run}
 use Rattle.steps.specs.Bounds as Bounds
-use Rattle.quick.specs.declared.step.State.{State}
+use Rattle.quick_steps.specs.declared.State.{State}
 use Rattle.keyed.specs.Opening.{starred, Known}
-use Rattle.keyed.specs.Written.{working-of, marks-of, first-marks}
+use Rattle.keyed.specs.Written.{working-of, marks-of}
 
 -- the code's lines are what the searches find in the marks
 pub record Lines (n : ℕ) (marks star owner prime : List ℕ) : Type 0 where
@@ -28,21 +27,6 @@ pub record Lines (n : ℕ) (marks star owner prime : List ℕ) : Type 0 where
   pub star-is : (i : ℕ) → i < n → getD star i 0 ≡ star-in-row n marks i
   pub owner-is : (j : ℕ) → j < n → getD owner j 0 ≡ star-in-column n marks j
   pub prime-is : (i : ℕ) → i < n → getD prime i 0 ≡ prime-in-row n marks i
-
--- what a run begins with, after steps 1 and 2
-pub record Started (n : ℕ) (costs : List ℤ) (mask : List ℕ) (s : State) (keys row-prices column-prices : List ℤ) (star owner prime cheapest : List ℕ) : Type 0 where
-  pub begun : view (s .run) ≡ no-run
-  pub table : keys ≡ square (entry 64 (allows n mask) (cost-at n costs)) n
-  pub row-prices-are : row-prices ≡ table-of (S.row-price n (allows n mask) (cost-at n costs)) n
-  pub column-prices-are : column-prices ≡ table-of (λ j. pos 0) n
-  pub star-long : n ≤ length star
-  pub owner-long : n ≤ length owner
-  pub prime-long : n ≤ length prime
-  pub star-is : (i : ℕ) → i < n → getD star i 0 ≡ star-in-row n (first-marks n costs mask) i
-  pub owner-is : (j : ℕ) → j < n → getD owner j 0 ≡ star-in-column n (first-marks n costs mask) j
-  pub no-prime : (i : ℕ) → i < n → getD prime i 0 ≡ n
-  pub cheapest-long : n ≤ length cheapest
-  pub none-known : (i : ℕ) → i < n → getD cheapest i 0 ≡ n
 
 -- how far prices and working values may be from 0, that keys hold them
 abbrev pub most-value : ℕ

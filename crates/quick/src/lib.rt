@@ -36,7 +36,7 @@ fn simulate(
     ensures { λ r. ⌜ Came n (now (mask .entry)) budget (Steps·start n (allows n (now (mask .entry))) (cost-at n (now (costs .entry))))
         (machine (view r) (now (working .exit)) (now (marks .exit)) (now («row_prices» .exit)) (now («column_prices» .exit))) ⌝ }
 {
-    let begun = step::start(
+    let begun = quick_steps::start(
         n,
         costs,
         mask,

@@ -2,8 +2,8 @@
 use mathlib.Core.Path.{refl}
 use Rattle.ground.proofs.Wide.{back64}
 use borrow.Author.Needs.{needs}
-use Rattle.quick.proofs.step.take_up.Statement.{statement}
-use Rattle.quick.proofs.step.take_up.Tie as tie
+use Rattle.quick_steps.proofs.take_up.Statement.{statement}
+use Rattle.quick_steps.proofs.take_up.Tie as tie
 
 open-uncovered-requires : tie.Need-open-uncovered-requires
 open-uncovered-requires c κs = c .before .pre

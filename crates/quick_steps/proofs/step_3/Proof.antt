@@ -11,12 +11,12 @@ use Rattle.ground.proofs.Wide.{back64}
 use Rattle.steps.specs.Steps as S
 use Rattle.ground.specs.View.{view}
 use Rattle.keyed.specs.Opening.{starred}
-use Rattle.quick.specs.Ways.{full, part}
-use Rattle.quick.specs.Asks.{ForStep3}
+use Rattle.quick_steps.specs.Ways.{full, part}
+use Rattle.quick_steps.specs.Asks.{ForStep3}
 use Rattle.keyed.specs.Asks.{OpensColumns}
 use borrow.Author.Needs.{needs}
-use Rattle.quick.proofs.step.step_3.Statement.{statement}
-use Rattle.quick.proofs.step.step_3.Tie as tie
+use Rattle.quick_steps.proofs.step_3.Statement.{statement}
+use Rattle.quick_steps.proofs.step_3.Tie as tie
 
 abbrev start : tie.After-starred-columns → tie.Start
 start c = c .before .before .before .before .before

@@ -16,8 +16,8 @@ use Rattle.ground.specs.View.{view}
 use Rattle.ground.proofs.Wide.{back64}
 use Rattle.keyed.specs.Keys.{limit, value-of, row-of, column-of, names-zero, lesser, lowered-key, least-key}
 use Rattle.keyed.specs.Opening.{term-at}
-use Rattle.quick.specs.Ways.{Primed, reaches, covers}
-use Rattle.quick.specs.declared.step.State.{State}
+use Rattle.quick_steps.specs.Ways.{Primed, reaches, covers}
+use Rattle.quick_steps.specs.declared.State.{State}
 
 -- ---- what it says that a key names a zero, or that it does not
 

@@ -6,8 +6,8 @@ use borrow.Author.Needs.{needs}
 use Rattle.lines.specs.Square.{table}
 use Rattle.lines.proofs.Squares.{table-at}
 use Rattle.keyed.proofs.Fills.{cheapest-below, none-before, prices-are, prices-small}
-use Rattle.quick.proofs.step.start.Statement.{statement}
-use Rattle.quick.proofs.step.start.Tie as tie
+use Rattle.quick_steps.proofs.start.Statement.{statement}
+use Rattle.quick_steps.proofs.start.Tie as tie
 
 -- ---- places: what was called before, back to the start
 

@@ -10,9 +10,9 @@ use borrow.Author.Tests.{not-true, not-false}
 use Rattle.steps.specs.Steps.{lowered, raised}
 use Rattle.ground.proofs.Wide.{back64}
 use Rattle.keyed.specs.Keys.{limit, value-of}
-use Rattle.quick.specs.Ways.{change, blocked, spent, adjusts}
-use Rattle.quick.proofs.step.step_6.Statement.{statement}
-use Rattle.quick.proofs.step.step_6.Tie as tie
+use Rattle.quick_steps.specs.Ways.{change, blocked, spent, adjusts}
+use Rattle.quick_steps.proofs.step_6.Statement.{statement}
+use Rattle.quick_steps.proofs.step_6.Tie as tie
 
 -- ---- what the state holds, read back from its bits
 

@@ -15,7 +15,7 @@ use Rattle.ground.specs.View.{view}
 use Rattle.ground.specs.declared.run.Run.{Run}
 use Rattle.keyed.specs.Keys.{limit, value-of, column-of, row-of, names-zero, lesser, lowered-key, least-key}
 use Rattle.steps.specs.Steps as S
-use Rattle.quick.specs.declared.step.State.{State}
+use Rattle.quick_steps.specs.declared.State.{State}
 use Rattle.keyed.specs.Opening.{term-at, Opens, starred, Known}
 
 -- the state with something else next
@@ -68,8 +68,6 @@ module _ (n : ℕ) (s : State) (keys row-prices column-prices : List ℤ) (star 
         → r .best ≡ least-key (with (s .run .rows) at-row) (λ i. lesser (getD key i (pos 0)) (at-term i)) n
         → prime′ ≡ set prime at-row at-column
         → ((i : ℕ) → i < n → getD key′ i (pos 0) ≡ lowered-key (with (s .run .rows) at-row) at-term i (getD key i (pos 0))) → Primed r prime′ key′
-
--- ---- step 5: from the prime at (i, j) to the star in its column, to the prime in that star's row, and so on: each row takes its prime's column
 
 -- ---- step 6
 
