@@ -10,9 +10,9 @@ ghost use Rattle.ground.specs.Good.{Came};
 ghost use Rattle.quick.specs.Asks.{Simulates};
 use ground::answer;
 use ground::run::Run;
-use keyed::stars;
-use keyed::values;
 use rules::Verdict;
+use starred::stars;
+use starred::values;
 use steps::Answer;
 
 mod step;
