@@ -1,25 +1,21 @@
 -- The rows' cheapest open columns: what the keys are that they give, and why they stay known.
 use mathlib.Core.Path.{_≡_, refl, sym, ap, _∙_}
-use mathlib.Core.Logic.{_⊎_, inl, inr, dite}
-use mathlib.Core.Bool.{Bool, true, false, cond}
+use mathlib.Core.Logic.{_⊎_, inl, inr}
+use mathlib.Core.Bool.{true, false}
 use mathlib.Core.List.{List}
-use Prim.Native.Nat.{ℕ, zero, suc, _+_, _*_, _≤_, _<_}
-use native.Mathlib.Decide.{ℕ-discrete}
+use Prim.Native.Nat.{ℕ, _+_, _*_, _≤_, _<_}
 use native.Mathlib.Omega.{arith}
 use borrow.Author.Count.{below-none, below-more}
-use borrow.Author.Tests.{ltb-false, le-ltb, ltb-true}
-use lib.Dec.{ltb}
 use lib.IntN.{ℤ, pos, _+ℤ_, _*ℤ_}
 use lib.ListN.{length, getD, set, length-set}
 use lib.Seq.{getD-set-same, getD-set-other}
 use lib.Signed.{_≤ℤ_, ltZ}
 use Rattle.lines.specs.Sets.{has}
 use Rattle.lines.proofs.Tests.{T-false, T-or, cases, clash}
-use Rattle.lines.proofs.Sets.{has-empty, has-those}
+use Rattle.lines.proofs.Sets.{has-empty}
 use Rattle.lines.proofs.Signed.{signed, plus-parts, minus-parts}
 use Rattle.keyed.specs.Keys.{far, limit, less-prices, lesser}
-use Rattle.keyed.specs.Opening.{own-term, starred, Cheapest, Known, Opens}
-use Rattle.keyed.specs.Flipping.{flipped, Follows}
+use Rattle.keyed.specs.Opening.{own-term, Cheapest, Known, Opens}
 use Rattle.keyed.specs.Best.{Keys}
 use Rattle.keyed.proofs.Packs.{plus-times}
 use Rattle.keyed.proofs.Opens.{RowKey, lesser-left, lesser-right, lesser-one, best-from}
@@ -196,41 +192,3 @@ pub known-raised : (n columns : ℕ) (keys row-prices column-prices row-prices�
     → Known n columns keys row-prices column-prices cheapest → Known n columns keys row-prices′ column-prices′ cheapest
 known-raised n columns keys row-prices column-prices row-prices′ column-prices′ cheapest z up known i hi l e j hj f =
     rw (up _ l e, up j hj f) (terms-moved 64 _ _ _ _ _ _ z (known i hi l e j hj f))
-
--- ---- the free columns
-
-starred-is : (n : ℕ) (owner : List ℕ) (j : ℕ) → j < n → has (starred n owner) j ≡ ltb (getD owner j 0) n
-starred-is n owner j h = has-those (λ j. ltb (getD owner j 0) n) n j h
-
-pub is-free : (n : ℕ) (owner : List ℕ) (j : ℕ) → j < n → has (starred n owner) j ≡ false → n ≤ getD owner j 0
-is-free n owner j h e = ltb-false (getD owner j 0) n (sym (starred-is n owner j h) ∙ e)
-
-pub free-is : (n : ℕ) (owner : List ℕ) (j : ℕ) → j < n → n ≤ getD owner j 0 → has (starred n owner) j ≡ false
-free-is n owner j h l = starred-is n owner j h ∙ le-ltb (getD owner j 0) n l
-
--- what is free after a path was flipped was so before: no column loses its owner
-module _ (n : ℕ) (prime : List ℕ) where
-  flipped-free : (k : ℕ) (star owner : List ℕ) (i j : ℕ) → Follows n prime k owner i j → n ≤ length owner → (a : ℕ) → n ≤ getD (flipped n prime k star owner i j .1) a 0 → n ≤ getD owner a 0
-  unfolding flipped Follows
-  flipped-free zero star owner i j f long a l = l
-  flipped-free (suc k) star owner i j f long a l = go (ltb (getD owner j 0) n) refl l (λ h. flipped-free k (set star i j) (set owner j i) (getD owner j 0) (getD prime (getD owner j 0) 0) (f .2 h) (rw (length-set owner j i) long) a)
-    where
-      was : n ≤ getD (set owner j i) a 0 → n ≤ getD owner a 0
-      was h =
-          dite (ℕ-discrete a j)
-          (λ e. let q = getD-set-same owner j i 0 (omega (arith, f .1)) in absurd (omega (arith, f .0, rw (e, q) at h)))
-          (λ ne. rw (getD-set-other owner j a i 0 ne) at h)
-
-      go : (x : Bool) → ltb (getD owner j 0) n ≡ x
-          → n ≤ getD (cond x (flipped n prime k (set star i j) (set owner j i) (getD owner j 0) (getD prime (getD owner j 0) 0)) (set star i j, set owner j i) .1) a 0
-          → (getD owner j 0 < n → n ≤ getD (flipped n prime k (set star i j) (set owner j i) (getD owner j 0) (getD prime (getD owner j 0) 0) .1) a 0 → n ≤ getD (set owner j i) a 0)
-          → n ≤ getD owner a 0
-      go true e h before = was (before (ltb-true (getD owner j 0) n e) h)
-      go false e h before = was h
-
-  pub known-flipped : (star owner : List ℕ) {star′ owner′ : List ℕ} (i j : ℕ) (keys row-prices column-prices : List ℤ) (cheapest : List ℕ)
-      → Follows n prime n owner i j → n ≤ length owner → (star′, owner′) ≡ flipped n prime n star owner i j
-      → Known n (starred n owner) keys row-prices column-prices cheapest → Known n (starred n owner′) keys row-prices column-prices cheapest
-  known-flipped star owner {star′} {owner′} i j keys row-prices column-prices cheapest f long e known =
-      known-fewer n (starred n owner) (starred n owner′) keys row-prices column-prices cheapest
-      (λ a ha h. free-is n owner a ha (flipped-free n star owner i j f long a (rw (ap (λ x. x .1) e) at (is-free n owner′ a ha h)))) known

@@ -2,9 +2,6 @@ pub mod Packs
 pub mod Opens
 pub mod KeyBits
 pub mod Lowers
-pub mod Flips
 pub mod OpenColumns
 pub mod Cheapests
 pub mod Fills
-pub mod Markings
-pub mod Starrings

@@ -3,12 +3,12 @@ use mathlib.Core.Path.{_≡_}
 use mathlib.Core.Bool.{Bool, false, not}
 use mathlib.Core.List.{List}
 use Prim.Native.Nat.{ℕ, _+_, _*_, _≤_, _<_}
-use lib.Dec.{T, ltb}
+use lib.Dec.{T}
 use lib.IntN.{ℤ, pos, _+ℤ_}
 use lib.Signed.{_≤ℤ_}
-use lib.ListN.{getD, set}
+use lib.ListN.{getD}
 use Rattle.lines.specs.Square.{cell}
-use Rattle.lines.specs.Sets.{has, those}
+use Rattle.lines.specs.Sets.{has}
 use Rattle.keyed.specs.Keys.{limit, pack, less-prices}
 use Rattle.keyed.specs.Best.{Keys, Best}
 
@@ -27,10 +27,6 @@ Opens n rows columns keys row-prices column-prices key best =
     → ((i j : ℕ) → i < n → j < n → T (ok i j) → own-term n keys row-prices column-prices j i ≡ pack 64 (cell (pos 0) n working i j +ℤ pos 0) j i)
     → ((i j : ℕ) → i < n → j < n → T (not (ok i j)) → limit ≤ℤ own-term n keys row-prices column-prices j i)
     → Keys 64 n ok limit working rows columns (pos 0) (λ i. getD key i (pos 0)) × Best 64 n ok limit working rows columns (pos 0) best
-
--- the columns that have a star; all others are free
-abbrev pub starred : ℕ → List ℕ → ℕ
-starred n owner = those (λ j. ltb (getD owner j 0) n) n
 
 -- in row i no column that is open is cheaper than column c
 abbrev pub NoneCheaper : ℕ → ℕ → List ℤ → List ℤ → List ℤ → ℕ → ℕ → Type 0

@@ -1,5 +1,3 @@
-// What the quick solver keeps between its steps: keys, each row's cheapest column, the stars by row and by column; and what it writes at its end.
+// What the quick solver goes by: the keys of cells, and each row's cheapest open column. Only its crates call what is here, so a function may have a `requires`.
 pub mod keys;
 pub mod opening;
-pub mod stars;
-pub mod values;

@@ -15,10 +15,10 @@ use Rattle.ground.specs.View.{view}
 use Rattle.ground.specs.Good.{Frame, Kept, Good, Came}
 use Rattle.ground.proofs.GoodLaws.{sound-at}
 use Rattle.ground.proofs.Arms.{Coming}
-use Rattle.keyed.specs.Asks.{WritesWorking}
+use Rattle.starred.specs.Asks.{WritesWorking}
 use Rattle.quick_steps.specs.Start.{Started}
 use Rattle.quick.specs.Shown.{Holds, Held, shown, Reached}
-use Rattle.keyed.specs.Written.{working-of, marks-of}
+use Rattle.starred.specs.Written.{working-of, marks-of}
 use Rattle.quick_steps.specs.declared.State.{State}
 use Rattle.quick.proofs.Resumes.{held-at-3}
 use Rattle.quick.proofs.ShownLaws.{shown-is}

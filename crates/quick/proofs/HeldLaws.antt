@@ -17,7 +17,8 @@ use Rattle.ground.proofs.GoodLaws.{kept-step}
 use Rattle.keyed.specs.Keys.{limit, pack}
 use Rattle.keyed.specs.Best.{key-at}
 use Rattle.keyed.specs.Asks.{Safe, Names}
-use Rattle.keyed.specs.Opening.{starred, Known}
+use Rattle.keyed.specs.Opening.{Known}
+use Rattle.starred.specs.Columns.{starred}
 use Rattle.quick.specs.Shown.{most-value, Lines, During, Searching, Held}
 use Rattle.keyed.proofs.Packs.{times-parts, pack-pos}
 use Rattle.quick.proofs.Choose.{value, row-named, column-named, key-is}

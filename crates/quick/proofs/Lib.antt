@@ -6,6 +6,7 @@ pub mod PathLaws
 pub mod TableLaws
 pub mod Resumes
 pub mod HeldLaws
+pub mod KnownLaws
 pub mod StepHeld
 pub mod ShownLaws
 pub mod Turns

@@ -21,7 +21,7 @@ use Rattle.steps.proofs.Marks.{mark-star, mark-prime, mark-none, find-star, fin
 use Rattle.steps.proofs.Phase.{open-off, star-off}
 use Rattle.steps.proofs.Search.{shown}
 use Rattle.quick.specs.Shown.{Lines}
-use Rattle.keyed.specs.Written.{marks-of}
+use Rattle.starred.specs.Written.{marks-of}
 
 -- ---- the marks are what the arrays show
 

@@ -20,7 +20,7 @@ use Rattle.steps.proofs.Marks.{find-star, find-row, find-prime}
 use Rattle.steps.proofs.Path.{star-off}
 use Rattle.steps.proofs.Flip.{on-path, starred, rowed, PathWalk, walk-start, walk-on, earlier}
 use Rattle.steps.proofs.Search.{prime′, time′, chained, early, at-prime, augmented}
-use Rattle.keyed.specs.Flipping.{flipped, Follows}
+use Rattle.starred.specs.Flipping.{flipped, Follows}
 use Rattle.quick.specs.Shown.{Lines}
 
 -- a list holds what a function says, n where that is none

@@ -16,7 +16,7 @@ use Rattle.steps.specs.Steps.{Machine, machine}
 use Rattle.steps.specs.Going.{Starred, Search, Ready, Sound-at}
 use Rattle.steps.proofs.Phase.{star-off}
 use Rattle.steps.proofs.Search.{time′, chained}
-use Rattle.keyed.specs.Written.{working-of, marks-of}
+use Rattle.starred.specs.Written.{working-of, marks-of}
 use Rattle.quick.specs.Shown.{Held, shown}
 use Rattle.quick.proofs.LineLaws.{marks-shown}
 use Rattle.quick.proofs.TableLaws.{priced}

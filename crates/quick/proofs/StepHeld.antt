@@ -27,13 +27,16 @@ use Rattle.ground.proofs.Arms.{arm-3, arm-4, arm-5, arm-6}
 use Rattle.ground.proofs.GoodLaws.{sound-at}
 use Rattle.keyed.specs.Keys.{limit, value-of, row-of, column-of, lesser, lowered-key, least-key}
 use Rattle.keyed.specs.Best.{key-at, Best}
-use Rattle.keyed.specs.Opening.{term-at, starred, Known, Opens}
-use Rattle.keyed.specs.Flipping.{flipped, Follows}
+use Rattle.keyed.specs.Opening.{term-at, Known, Opens}
+use Rattle.starred.specs.Columns.{starred}
+use Rattle.starred.specs.Flipping.{flipped, Follows}
 use Rattle.quick.specs.Shown.{Lines, During, Held}
 use Rattle.quick.proofs.Choose.{zero-here, row-named, column-named}
 use Rattle.keyed.proofs.Opens.{best-of, keys-covered, keys-opened}
 use Rattle.keyed.proofs.OpenColumns.{beyond}
-use Rattle.keyed.proofs.Cheapests.{is-free, free-is, known-raised, known-flipped}
+use Rattle.keyed.proofs.Cheapests.{known-raised}
+use Rattle.starred.proofs.Free.{is-free, free-is}
+use Rattle.quick.proofs.KnownLaws.{known-flipped}
 use Rattle.quick.proofs.Adjusts.{keys-adjusted, best-adjusted}
 use Rattle.quick.proofs.Keyed.{keyed-none, keyed-above, keyed-zero, keyed-blocked, keyed-spent, keyed-adjusts}
 use Rattle.quick.proofs.LineLaws.{lines-primed, same-star, same-owner}

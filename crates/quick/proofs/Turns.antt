@@ -17,7 +17,7 @@ use Rattle.ground.specs.declared.run.Next.the-variants.{Step3, Step4, Step5, St
 use Rattle.ground.proofs.Arms.{arm-end}
 use Rattle.keyed.specs.Keys.{limit}
 use Rattle.quick_steps.specs.Ways.{Primed, passes, covers, reaches, Adjusted, blocked, spent, adjusts, Crossed, full, part}
-use Rattle.keyed.specs.Flipping.{flipped}
+use Rattle.starred.specs.Flipping.{flipped}
 use Rattle.quick.specs.Shown.{Held, shown, Turned}
 use Rattle.quick_steps.specs.declared.State.{State}
 use Rattle.quick_steps.proofs.WayLaws.{zero-near, zero-below, zero-above}

@@ -16,8 +16,9 @@ use Rattle.keyed.specs.Best.{Keys, Best}
 use Rattle.steps.specs.Steps as S
 use Rattle.steps.specs.Bounds as Bounds
 use Rattle.quick_steps.specs.declared.State.{State}
-use Rattle.keyed.specs.Opening.{starred, Known}
-use Rattle.keyed.specs.Written.{working-of, marks-of}
+use Rattle.keyed.specs.Opening.{Known}
+use Rattle.starred.specs.Columns.{starred}
+use Rattle.starred.specs.Written.{working-of, marks-of}
 
 -- the code's lines are what the searches find in the marks
 pub record Lines (n : ℕ) (marks star owner prime : List ℕ) : Type 0 where

@@ -16,8 +16,10 @@ use Rattle.lines.specs.Sets.{rest}
 use Rattle.steps.specs.Lent.{allows}
 use Rattle.ground.specs.Prices.{AdjustsPrices}
 use Rattle.keyed.specs.Keys.{limit}
-use Rattle.keyed.specs.Opening.{starred, Known}
-use Rattle.keyed.specs.Asks.{Fills, Names, FlipsPath, Safe}
+use Rattle.keyed.specs.Opening.{Known}
+use Rattle.starred.specs.Columns.{starred}
+use Rattle.keyed.specs.Asks.{Fills, Names, Safe}
+use Rattle.starred.specs.Asks.{FlipsPath}
 use Rattle.quick_steps.specs.Ways.{change}
 use Rattle.quick_steps.specs.declared.State.{State}
 

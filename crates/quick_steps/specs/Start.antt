@@ -10,7 +10,7 @@ use Rattle.steps.specs.Steps.{star-in-row, star-in-column, row-price}
 use Rattle.steps.specs.Outcome.{no-run}
 use Rattle.ground.specs.View.{view}
 use Rattle.keyed.specs.Keys.{entry}
-use Rattle.keyed.specs.Written.{first-marks}
+use Rattle.starred.specs.Written.{first-marks}
 use Rattle.quick_steps.specs.declared.State.{State}
 
 pub record Started (n : ℕ) (costs : List ℤ) (mask : List ℕ) (s : State) (keys row-prices column-prices : List ℤ) (star owner prime cheapest : List ℕ) : Type 0 where

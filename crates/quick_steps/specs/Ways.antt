@@ -16,7 +16,8 @@ use Rattle.ground.specs.declared.run.Run.{Run}
 use Rattle.keyed.specs.Keys.{limit, value-of, column-of, row-of, names-zero, lesser, lowered-key, least-key}
 use Rattle.steps.specs.Steps as S
 use Rattle.quick_steps.specs.declared.State.{State}
-use Rattle.keyed.specs.Opening.{term-at, Opens, starred, Known}
+use Rattle.keyed.specs.Opening.{term-at, Opens, Known}
+use Rattle.starred.specs.Columns.{starred}
 
 -- the state with something else next
 pub record Goes (x : S.Next) (s r : State) : Type 0 where

@@ -7,7 +7,7 @@ ghost use Rattle.lines.specs.Square.{table};
 ghost use Rattle.steps.specs.Steps.{augmenting};
 ghost use Rattle.ground.specs.View.{view};
 ghost use Rattle.keyed.specs.Asks.{Safe};
-ghost use Rattle.keyed.specs.Flipping.{flipped};
+ghost use Rattle.starred.specs.Flipping.{flipped};
 ghost use Rattle.quick_steps.specs.Asks.{Starts, ForStep3, ForStep4, ForStep5, ForStep6};
 ghost use Rattle.quick_steps.specs.Start.{Started};
 ghost use Rattle.quick_steps.specs.Ways.{TakenUp, Crossed, Primed, Adjusted};
@@ -17,8 +17,8 @@ use ground::run::Next;
 use ground::run::Run;
 use keyed::keys;
 use keyed::opening;
-use keyed::stars;
-use keyed::values;
+use starred::stars;
+use starred::values;
 
 // The run, what the adjustments of this phase add up to, and the least key.
 pub struct State {

@@ -10,7 +10,7 @@ use Rattle.lines.specs.Count.{count}
 use Rattle.ground.proofs.Wide.{back64}
 use Rattle.steps.specs.Steps as S
 use Rattle.ground.specs.View.{view}
-use Rattle.keyed.specs.Opening.{starred}
+use Rattle.starred.specs.Columns.{starred}
 use Rattle.quick_steps.specs.Ways.{full, part}
 use Rattle.quick_steps.specs.Asks.{ForStep3}
 use Rattle.keyed.specs.Asks.{OpensColumns}

@@ -1,0 +1,4 @@
+pub mod Columns
+pub mod Flipping
+pub mod Written
+pub mod Asks
