@@ -2,8 +2,8 @@
 use native.Mathlib.Omega.{arith}
 use mir.Facts.{toZ-ofZ}
 use borrow.Author.Needs.{needs}
-use Rattle.trials.proofs.list.wide_cost.Statement.{statement}
-use Rattle.trials.proofs.list.wide_cost.Tie as tie
+use Rattle.calls.proofs.same.wide_cost.Statement.{statement}
+use Rattle.calls.proofs.same.wide_cost.Tie as tie
 
 cast-result : tie.Need-cast-result
 cast-result c = rw (toZ-ofZ (c .fits .cost)) (record { sfits = omega (arith, c .fits .cost .sfits) })

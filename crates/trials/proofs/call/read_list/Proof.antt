@@ -1,0 +1,74 @@
+-- 
+use Prim.Native.Nat.{_-_}
+use borrow.Author.Needs.{needs}
+use Rattle.trials.proofs.call.read_list.Statement.{statement}
+use Rattle.trials.proofs.call.read_list.Tie as tie
+
+abbrev Inv-loop : tie.InvT-loop
+Inv-loop text from k count said₀ list₀ i₀ said list i = Unit {0}
+
+abbrev μ-loop : tie.MeasureT-loop
+μ-loop text from k count said₀ list₀ i₀ said list i = count - i
+
+mul-name : tie.Need-mul-name Inv-loop μ-loop
+mul-name c = search needs
+
+array-copy-out-name : tie.Need-array-copy-out-name Inv-loop μ-loop
+array-copy-out-name c = search needs
+
+mul-named : tie.Need-mul-named Inv-loop μ-loop
+mul-named c = search needs
+
+array-copy-out-named : tie.Need-array-copy-out-named Inv-loop μ-loop
+array-copy-out-named c = search needs
+
+named-requires : tie.Need-named-requires Inv-loop μ-loop
+named-requires c κs = search needs
+
+loop-holds : tie.Need-loop-holds Inv-loop μ-loop
+loop-holds c = search needs
+
+next-requires : tie.Need-next-requires Inv-loop μ-loop
+next-requires c κs = search needs
+
+mul-put : tie.Need-mul-put Inv-loop μ-loop
+mul-put c = search needs
+
+array-read-put : tie.Need-array-read-put Inv-loop μ-loop
+array-read-put c = search needs
+
+put-requires : tie.Need-put-requires Inv-loop μ-loop
+put-requires c κs = search needs
+
+add-i : tie.Need-add-i Inv-loop μ-loop
+add-i c = search needs
+
+loop-less : tie.Need-loop-less Inv-loop μ-loop
+loop-less c = search needs
+
+loop-again : tie.Need-loop-again Inv-loop μ-loop
+loop-again c = search needs
+
+returns : tie.Need-returns Inv-loop μ-loop
+returns c = search needs
+
+pub read-list-spec : {M : Type 1} → statement M
+read-list-spec =
+    tie.close
+    (tie.spec
+    Inv-loop
+    μ-loop
+    mul-name
+    array-copy-out-name
+    mul-named
+    array-copy-out-named
+    named-requires
+    loop-holds
+    next-requires
+    mul-put
+    array-read-put
+    put-requires
+    add-i
+    loop-less
+    loop-again
+    returns)
