@@ -7,6 +7,6 @@ pub record Fits (l : Lengths) : Type 0 where
   pub mask : l .mask ≤ 4225
   pub working : l .working ≤ 4225
   pub marks : l .marks ≤ 4225
-  pub columns : l .columns ≤ 4225
-  pub row-prices : l .«row_prices» ≤ 4225
-  pub column-prices : l .«column_prices» ≤ 4225
+  pub columns : l .columns ≤ 65
+  pub row-prices : l .«row_prices» ≤ 65
+  pub column-prices : l .«column_prices» ≤ 65

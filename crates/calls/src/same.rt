@@ -1,6 +1,10 @@
 // Are the first numbers of a buffer those that are said from `start` on?
-ghost use Prim.Native.Nat.{_≤_};
 use crate::numbers::ANSWER;
+use crate::numbers::CELLS;
+use crate::numbers::LINES;
+use crate::numbers::Numbers;
+use crate::numbers::least;
+use crate::numbers::number;
 use steps::Answer;
 
 fn wide_cost(cost: i32) -> i64 {
@@ -15,12 +19,11 @@ fn wide_column(column: u16) -> i64 {
     column as i64
 }
 
-pub fn are_costs(said: &[i64; 33800], start: usize, costs: &[i32; 4225], count: usize) -> bool
-    requires { ⌜ (start ≤ 29575) × (count ≤ 4225) ⌝ }
-{
+pub fn are_costs(said: &Numbers, start: usize, costs: &[i32; 4225], count: usize) -> bool {
+    let end = least(count, CELLS);
     let mut i = 0;
-    while i < count {
-        if said[start + i] != wide_cost(costs[i]) {
+    while i < end {
+        if number(said, start, i) != wide_cost(costs[i]) {
             return false;
         }
         i += 1;
@@ -28,12 +31,11 @@ pub fn are_costs(said: &[i64; 33800], start: usize, costs: &[i32; 4225], count: 
     true
 }
 
-pub fn are_bytes(said: &[i64; 33800], start: usize, bytes: &[u8; 4225], count: usize) -> bool
-    requires { ⌜ (start ≤ 29575) × (count ≤ 4225) ⌝ }
-{
+pub fn are_bytes(said: &Numbers, start: usize, bytes: &[u8; 4225], count: usize) -> bool {
+    let end = least(count, CELLS);
     let mut i = 0;
-    while i < count {
-        if said[start + i] != wide_byte(bytes[i]) {
+    while i < end {
+        if number(said, start, i) != wide_byte(bytes[i]) {
             return false;
         }
         i += 1;
@@ -41,12 +43,11 @@ pub fn are_bytes(said: &[i64; 33800], start: usize, bytes: &[u8; 4225], count: u
     true
 }
 
-pub(crate) fn are_columns(said: &[i64; 33800], start: usize, columns: &[u16; 4225], count: usize) -> bool
-    requires { ⌜ (start ≤ 29575) × (count ≤ 4225) ⌝ }
-{
+pub(crate) fn are_values(said: &Numbers, start: usize, values: &[i64; 4225], count: usize) -> bool {
+    let end = least(count, CELLS);
     let mut i = 0;
-    while i < count {
-        if said[start + i] != wide_column(columns[i]) {
+    while i < end {
+        if number(said, start, i) != values[i] {
             return false;
         }
         i += 1;
@@ -54,12 +55,23 @@ pub(crate) fn are_columns(said: &[i64; 33800], start: usize, columns: &[u16; 422
     true
 }
 
-pub(crate) fn are_values(said: &[i64; 33800], start: usize, values: &[i64; 4225], count: usize) -> bool
-    requires { ⌜ (start ≤ 29575) × (count ≤ 4225) ⌝ }
-{
+pub(crate) fn are_columns(said: &Numbers, start: usize, columns: &[u16; 65], count: usize) -> bool {
+    let end = least(count, LINES);
     let mut i = 0;
-    while i < count {
-        if said[start + i] != values[i] {
+    while i < end {
+        if number(said, start, i) != wide_column(columns[i]) {
+            return false;
+        }
+        i += 1;
+    }
+    true
+}
+
+pub(crate) fn are_prices(said: &Numbers, start: usize, prices: &[i64; 65], count: usize) -> bool {
+    let end = least(count, LINES);
+    let mut i = 0;
+    while i < end {
+        if number(said, start, i) != prices[i] {
             return false;
         }
         i += 1;
@@ -77,9 +89,9 @@ fn signed(number: u64) -> i64 {
 }
 
 // The fields of an answer, in the order in which a stored call has them.
-fn fields(answer: Answer) -> [i64; 4225] {
+fn fields(answer: Answer) -> [i64; 65] {
     let total = answer.total;
-    let mut fields = [0i64; 4225];
+    let mut fields = [0i64; 65];
     fields[0] = answer.number as i64;
     fields[1] = signed(answer.place as u64);
     fields[2] = answer.adjustments as i64;
@@ -91,7 +103,7 @@ fn fields(answer: Answer) -> [i64; 4225] {
     fields
 }
 
-pub(crate) fn is_answer(said: &[i64; 33800], answer: Answer) -> bool {
-    let there = fields(answer);
-    are_values(said, ANSWER, &there, 8)
+pub(crate) fn is_answer(said: &Numbers, answer: Answer) -> bool {
+    let fields = fields(answer);
+    are_prices(said, ANSWER, &fields, 8)
 }

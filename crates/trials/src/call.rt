@@ -1,23 +1,25 @@
 // One call of a trial, read from the text: what is lent, and what must come out.
 ghost use Prim.Native.Nat.{_<_};
 ghost use Rattle.calls.specs.Fits.{Fits};
-use calls::ANSWER;
-use calls::Before;
-use calls::COLUMNS;
-use calls::COLUMN_PRICES;
-use calls::COSTS;
-use calls::Call;
-use calls::Lengths;
-use calls::MARKS;
-use calls::MASK;
-use calls::ROOM;
-use calls::ROW_PRICES;
-use calls::WORKING;
 use crate::numbers::LARGEST;
 use crate::numbers::count_to;
 use crate::numbers::signed;
 use crate::words::BEHIND;
 use crate::words::after_word;
+use calls::ANSWER;
+use calls::Before;
+use calls::CELLS;
+use calls::COLUMN_PRICES;
+use calls::COLUMNS;
+use calls::COSTS;
+use calls::Call;
+use calls::LINES;
+use calls::Lengths;
+use calls::MARKS;
+use calls::MASK;
+use calls::Numbers;
+use calls::ROW_PRICES;
+use calls::WORKING;
 
 const LARGEST_BUDGET: usize = 4_294_967_295;
 
@@ -48,13 +50,13 @@ const STARTS: [usize; 15] = [
     COSTS,
     MASK,
     ANSWER,
-    8451,
-    8455,
-    8452,
-    8453,
-    8454,
-    8456,
-    8457,
+    17_096,
+    17_100,
+    17_097,
+    17_098,
+    17_099,
+    17_101,
+    17_102,
     WORKING,
     MARKS,
     COLUMNS,
@@ -123,22 +125,23 @@ fn named(text: &[u8], from: usize, name: &[u8; 16], unnamed: i64) -> List {
 }
 
 // Reads list k, and answers where it ends.
-fn read_list(text: &[u8], from: usize, k: usize, count: usize, said: &mut [i64; 33800]) -> usize
+fn read_list(text: &[u8], from: usize, k: usize, count: usize, said: &mut Numbers) -> usize
     requires { ⌜ k < 15 ⌝ }
 {
     let name = NAMES[k];
+    let start = STARTS[k];
     let mut list = named(text, from, &name, UNNAMED[k]);
     let mut i = 0;
     while i < count {
         list = next(text, list);
-        calls::put(said, STARTS[k], i, list.value);
+        calls::put(said, start, i, list.value);
         i += 1;
     }
     list.at
 }
 
 // Reads all lists, and answers where they end.
-fn read_lists(text: &[u8], from: usize, lengths: Lengths, said: &mut [i64; 33800]) -> usize {
+fn read_lists(text: &[u8], from: usize, lengths: Lengths, said: &mut Numbers) -> usize {
     let mut at = from;
     let mut k = 0;
     while k < 15 {
@@ -157,13 +160,13 @@ struct Lent {
 fn read_lent(text: &[u8], from: usize) -> Lent
     ensures { λ r. ⌜ Fits (r .lengths) ⌝ }
 {
-    let costs = count_to(text, after_word(text, from, b"lent"), ROOM);
-    let mask = count_to(text, costs.at, ROOM);
-    let working = count_to(text, mask.at, ROOM);
-    let marks = count_to(text, working.at, ROOM);
-    let columns = count_to(text, marks.at, ROOM);
-    let row_prices = count_to(text, columns.at, ROOM);
-    let column_prices = count_to(text, row_prices.at, ROOM);
+    let costs = count_to(text, after_word(text, from, b"lent"), CELLS);
+    let mask = count_to(text, costs.at, CELLS);
+    let working = count_to(text, mask.at, CELLS);
+    let marks = count_to(text, working.at, CELLS);
+    let columns = count_to(text, marks.at, LINES);
+    let row_prices = count_to(text, columns.at, LINES);
+    let column_prices = count_to(text, row_prices.at, LINES);
     let lengths = Lengths {
         costs: costs.size,
         mask: mask.size,
@@ -190,7 +193,7 @@ pub(crate) fn call(text: &[u8], from: usize) -> Tried {
     let n = count_to(text, after_word(text, lent.at, b"n"), LARGEST);
     let budget = count_to(text, after_word(text, n.at, b"budget"), LARGEST_BUDGET);
     let lengths = lent.lengths;
-    let mut said = [0i64; 33800];
+    let mut said = [0i64; 17160];
     let at = read_lists(text, budget.at, lengths, &mut said);
     let before = Before {
         working: 77,

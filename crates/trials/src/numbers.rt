@@ -76,10 +76,7 @@ fn ended(number: Count, at: usize, limit: usize) -> Count
 fn digits(text: &[u8], start: usize, limit: usize) -> Count
     ensures { λ r. ⌜ r .size ≤ limit ⌝ }
 {
-    let mut number = Count {
-        at: start,
-        size: 0,
-    };
+    let mut number = Count { at: start, size: 0 };
     let mut at = start;
     while at < text.len() && !is_blank(text[at]) {
         number = with_byte(number, text[at]);
@@ -127,8 +124,7 @@ pub(crate) fn signed(text: &[u8], from: usize) -> Number {
     }
 }
 
-fn negative(size: usize) -> i64
-{
+fn negative(size: usize) -> i64 {
     if size == 0 {
         return 0;
     }

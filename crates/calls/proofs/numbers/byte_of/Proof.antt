@@ -1,4 +1,4 @@
--- 
+--
 use borrow.Author.Needs.{needs}
 use Rattle.calls.proofs.Narrow.{byte-fits}
 use Rattle.calls.proofs.numbers.byte_of.Statement.{statement}

@@ -1,4 +1,4 @@
--- 
+--
 use borrow.Author.Needs.{needs}
 use Rattle.calls.proofs.Narrow.{cost-fits}
 use Rattle.calls.proofs.numbers.cost_of.Statement.{statement}

@@ -1,4 +1,4 @@
--- 
+--
 use lib.ListN.{length}
 use mathlib.Core.Path.{_≡_}
 use Prim.Native.Nat.{_-_}
@@ -7,19 +7,19 @@ use Rattle.calls.proofs.numbers.costs_of.Statement.{statement}
 use Rattle.calls.proofs.numbers.costs_of.Tie as tie
 
 abbrev Inv-loop : tie.InvT-loop
-Inv-loop said count costs₀ i₀ costs i = length costs ≡ 4225
+Inv-loop said count end costs₀ i₀ costs i = length costs ≡ 4225
 
 abbrev μ-loop : tie.MeasureT-loop
-μ-loop said count costs₀ i₀ costs i = count - i
+μ-loop said count end costs₀ i₀ costs i = end - i
+
+least-requires : tie.Need-least-requires Inv-loop μ-loop
+least-requires c κs = search needs
 
 loop-holds : tie.Need-loop-holds Inv-loop μ-loop
 loop-holds c = search needs
 
-mul-cost-of : tie.Need-mul-cost-of Inv-loop μ-loop
-mul-cost-of c = search needs
-
-element-copy-out-cost-of : tie.Need-element-copy-out-cost-of Inv-loop μ-loop
-element-copy-out-cost-of c = search needs
+number-requires : tie.Need-number-requires Inv-loop μ-loop
+number-requires c κs = search needs
 
 cost-of-requires : tie.Need-cost-of-requires Inv-loop μ-loop
 cost-of-requires c κs = search needs
@@ -48,9 +48,9 @@ costs-of-spec =
     (tie.spec
     Inv-loop
     μ-loop
+    least-requires
     loop-holds
-    mul-cost-of
-    element-copy-out-cost-of
+    number-requires
     cost-of-requires
     mul-costs
     array-set-from-costs

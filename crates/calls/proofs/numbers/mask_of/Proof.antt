@@ -1,4 +1,4 @@
--- 
+--
 use lib.ListN.{length}
 use mathlib.Core.Path.{_≡_}
 use Prim.Native.Nat.{_-_}
@@ -7,22 +7,19 @@ use Rattle.calls.proofs.numbers.mask_of.Statement.{statement}
 use Rattle.calls.proofs.numbers.mask_of.Tie as tie
 
 abbrev Inv-loop : tie.InvT-loop
-Inv-loop said count mask₀ i₀ mask i = length mask ≡ 4225
+Inv-loop said count end mask₀ i₀ mask i = length mask ≡ 4225
 
 abbrev μ-loop : tie.MeasureT-loop
-μ-loop said count mask₀ i₀ mask i = count - i
+μ-loop said count end mask₀ i₀ mask i = end - i
+
+least-requires : tie.Need-least-requires Inv-loop μ-loop
+least-requires c κs = search needs
 
 loop-holds : tie.Need-loop-holds Inv-loop μ-loop
 loop-holds c = search needs
 
-add-byte-of : tie.Need-add-byte-of Inv-loop μ-loop
-add-byte-of c = search needs
-
-mul-byte-of : tie.Need-mul-byte-of Inv-loop μ-loop
-mul-byte-of c = search needs
-
-element-copy-out-byte-of : tie.Need-element-copy-out-byte-of Inv-loop μ-loop
-element-copy-out-byte-of c = search needs
+number-requires : tie.Need-number-requires Inv-loop μ-loop
+number-requires c κs = search needs
 
 byte-of-requires : tie.Need-byte-of-requires Inv-loop μ-loop
 byte-of-requires c κs = search needs
@@ -48,10 +45,9 @@ mask-of-spec =
     (tie.spec
     Inv-loop
     μ-loop
+    least-requires
     loop-holds
-    add-byte-of
-    mul-byte-of
-    element-copy-out-byte-of
+    number-requires
     byte-of-requires
     array-write-mask
     add-i

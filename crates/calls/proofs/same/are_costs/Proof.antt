@@ -1,26 +1,23 @@
--- 
+--
 use Prim.Native.Nat.{_-_}
 use borrow.Author.Needs.{needs}
 use Rattle.calls.proofs.same.are_costs.Statement.{statement}
 use Rattle.calls.proofs.same.are_costs.Tie as tie
 
 abbrev Inv-loop : tie.InvT-loop
-Inv-loop said start costs count i₀ i = Unit {0}
+Inv-loop said start costs count end i₀ i = Unit {0}
 
 abbrev μ-loop : tie.MeasureT-loop
-μ-loop said start costs count i₀ i = count - i
+μ-loop said start costs count end i₀ i = end - i
+
+least-requires : tie.Need-least-requires Inv-loop μ-loop
+least-requires c κs = search needs
 
 loop-holds : tie.Need-loop-holds Inv-loop μ-loop
 loop-holds c = search needs
 
-add-if1 : tie.Need-add-if1 Inv-loop μ-loop
-add-if1 c = search needs
-
-mul-if1 : tie.Need-mul-if1 Inv-loop μ-loop
-mul-if1 c = search needs
-
-element-copy-out-if1 : tie.Need-element-copy-out-if1 Inv-loop μ-loop
-element-copy-out-if1 c = search needs
+number-requires : tie.Need-number-requires Inv-loop μ-loop
+number-requires c κs = search needs
 
 mul-wide-cost : tie.Need-mul-wide-cost Inv-loop μ-loop
 mul-wide-cost c = search needs
@@ -52,10 +49,9 @@ are-costs-spec =
     (tie.spec
     Inv-loop
     μ-loop
+    least-requires
     loop-holds
-    add-if1
-    mul-if1
-    element-copy-out-if1
+    number-requires
     mul-wide-cost
     element-copy-out-wide-cost
     wide-cost-requires

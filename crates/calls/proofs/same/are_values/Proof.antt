@@ -1,32 +1,29 @@
--- 
+--
 use Prim.Native.Nat.{_-_}
 use borrow.Author.Needs.{needs}
 use Rattle.calls.proofs.same.are_values.Statement.{statement}
 use Rattle.calls.proofs.same.are_values.Tie as tie
 
 abbrev Inv-loop : tie.InvT-loop
-Inv-loop said start values count i₀ i = Unit {0}
+Inv-loop said start values count end i₀ i = Unit {0}
 
 abbrev μ-loop : tie.MeasureT-loop
-μ-loop said start values count i₀ i = count - i
+μ-loop said start values count end i₀ i = end - i
+
+least-requires : tie.Need-least-requires Inv-loop μ-loop
+least-requires c κs = search needs
 
 loop-holds : tie.Need-loop-holds Inv-loop μ-loop
 loop-holds c = search needs
 
-add-if1 : tie.Need-add-if1 Inv-loop μ-loop
-add-if1 c = search needs
+number-requires : tie.Need-number-requires Inv-loop μ-loop
+number-requires c κs = search needs
 
 mul-if1 : tie.Need-mul-if1 Inv-loop μ-loop
 mul-if1 c = search needs
 
 element-copy-out-if1 : tie.Need-element-copy-out-if1 Inv-loop μ-loop
 element-copy-out-if1 c = search needs
-
-mul-if1-2 : tie.Need-mul-if1-2 Inv-loop μ-loop
-mul-if1-2 c = search needs
-
-element-copy-out-if1-2 : tie.Need-element-copy-out-if1-2 Inv-loop μ-loop
-element-copy-out-if1-2 c = search needs
 
 returns : tie.Need-returns Inv-loop μ-loop
 returns c = search needs
@@ -49,12 +46,11 @@ are-values-spec =
     (tie.spec
     Inv-loop
     μ-loop
+    least-requires
     loop-holds
-    add-if1
+    number-requires
     mul-if1
     element-copy-out-if1
-    mul-if1-2
-    element-copy-out-if1-2
     returns
     add-i
     loop-less

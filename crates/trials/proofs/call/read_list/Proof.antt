@@ -1,20 +1,26 @@
--- 
+--
 use Prim.Native.Nat.{_-_}
 use borrow.Author.Needs.{needs}
 use Rattle.trials.proofs.call.read_list.Statement.{statement}
 use Rattle.trials.proofs.call.read_list.Tie as tie
 
 abbrev Inv-loop : tie.InvT-loop
-Inv-loop text from k count said₀ list₀ i₀ said list i = Unit {0}
+Inv-loop text from k count said₀ start list₀ i₀ said list i = Unit {0}
 
 abbrev μ-loop : tie.MeasureT-loop
-μ-loop text from k count said₀ list₀ i₀ said list i = count - i
+μ-loop text from k count said₀ start list₀ i₀ said list i = count - i
 
 mul-name : tie.Need-mul-name Inv-loop μ-loop
 mul-name c = search needs
 
 array-copy-out-name : tie.Need-array-copy-out-name Inv-loop μ-loop
 array-copy-out-name c = search needs
+
+mul-start : tie.Need-mul-start Inv-loop μ-loop
+mul-start c = search needs
+
+array-read-start : tie.Need-array-read-start Inv-loop μ-loop
+array-read-start c = search needs
 
 mul-named : tie.Need-mul-named Inv-loop μ-loop
 mul-named c = search needs
@@ -30,12 +36,6 @@ loop-holds c = search needs
 
 next-requires : tie.Need-next-requires Inv-loop μ-loop
 next-requires c κs = search needs
-
-mul-put : tie.Need-mul-put Inv-loop μ-loop
-mul-put c = search needs
-
-array-read-put : tie.Need-array-read-put Inv-loop μ-loop
-array-read-put c = search needs
 
 put-requires : tie.Need-put-requires Inv-loop μ-loop
 put-requires c κs = search needs
@@ -60,13 +60,13 @@ read-list-spec =
     μ-loop
     mul-name
     array-copy-out-name
+    mul-start
+    array-read-start
     mul-named
     array-copy-out-named
     named-requires
     loop-holds
     next-requires
-    mul-put
-    array-read-put
     put-requires
     add-i
     loop-less

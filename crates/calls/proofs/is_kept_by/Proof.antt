@@ -1,9 +1,15 @@
--- `left_by` lends as much of each list as it is long, which is there.
+-- `is_kept_by` lends as much of each list as it is long, which is there.
 use mathlib.Core.Path.{sym}
 use lib.Seq.{length-take-le}
 use borrow.Author.Needs.{needs}
-use Rattle.calls.proofs.left_by.Statement.{statement}
-use Rattle.calls.proofs.left_by.Tie as tie
+use Rattle.calls.proofs.is_kept_by.Statement.{statement}
+use Rattle.calls.proofs.is_kept_by.Tie as tie
+
+costs-of-requires : tie.Need-costs-of-requires
+costs-of-requires c κs = search needs
+
+mask-of-requires : tie.Need-mask-of-requires
+mask-of-requires c κs = search needs
 
 array-share-prefix-costs : tie.Need-array-share-prefix-costs
 array-share-prefix-costs c = search needs
@@ -50,13 +56,39 @@ slice-aggregate-solve-by-7 c = sym (length-take-le _ _ (array-borrow-prefix-colu
 solve-by-requires : tie.Need-solve-by-requires
 solve-by-requires c κs = search needs
 
+is-answer-requires : tie.Need-is-answer-requires
+is-answer-requires c κs = search needs
+
+are-costs-requires : tie.Need-are-costs-requires
+are-costs-requires c κs = search needs
+
+are-bytes-requires : tie.Need-are-bytes-requires
+are-bytes-requires c κs = search needs
+
+are-values-requires : tie.Need-are-values-requires
+are-values-requires c κs = search needs
+
+are-bytes-requires-2 : tie.Need-are-bytes-requires-2
+are-bytes-requires-2 c κs = search needs
+
+are-columns-requires : tie.Need-are-columns-requires
+are-columns-requires c κs = search needs
+
+are-prices-requires : tie.Need-are-prices-requires
+are-prices-requires c κs = search needs
+
+are-prices-requires-2 : tie.Need-are-prices-requires-2
+are-prices-requires-2 c κs = search needs
+
 returns : tie.Need-returns
 returns c = search needs
 
-pub left-by-spec : {M : Type 1} → statement M
-left-by-spec =
+pub is-kept-by-spec : {M : Type 1} → statement M
+is-kept-by-spec =
     tie.close
     (tie.spec
+    costs-of-requires
+    mask-of-requires
     array-share-prefix-costs
     slice-aggregate-solve-by
     array-share-prefix-mask
@@ -72,4 +104,12 @@ left-by-spec =
     array-borrow-prefix-column-prices
     slice-aggregate-solve-by-7
     solve-by-requires
+    is-answer-requires
+    are-costs-requires
+    are-bytes-requires
+    are-values-requires
+    are-bytes-requires-2
+    are-columns-requires
+    are-prices-requires
+    are-prices-requires-2
     returns)
