@@ -50,19 +50,37 @@ const STARTS: [usize; 15] = [
     COSTS,
     MASK,
     ANSWER,
-    17_096,
-    17_100,
-    17_097,
-    17_098,
-    17_099,
-    17_101,
-    17_102,
+    ANSWER + 1,
+    ANSWER + 5,
+    ANSWER + 2,
+    ANSWER + 3,
+    ANSWER + 4,
+    ANSWER + 6,
+    ANSWER + 7,
     WORKING,
     MARKS,
     COLUMNS,
     ROW_PRICES,
     COLUMN_PRICES,
 ];
+
+fn name(k: usize) -> [u8; 16]
+    requires { ⌜ k < 15 ⌝ }
+{
+    NAMES[k]
+}
+
+fn unnamed(k: usize) -> i64
+    requires { ⌜ k < 15 ⌝ }
+{
+    UNNAMED[k]
+}
+
+fn start(k: usize) -> usize
+    requires { ⌜ k < 15 ⌝ }
+{
+    STARTS[k]
+}
 
 // How many they are.
 fn count(lengths: Lengths, k: usize) -> usize {
@@ -128,9 +146,9 @@ fn named(text: &[u8], from: usize, name: &[u8; 16], unnamed: i64) -> List {
 fn read_list(text: &[u8], from: usize, k: usize, count: usize, said: &mut Numbers) -> usize
     requires { ⌜ k < 15 ⌝ }
 {
-    let name = NAMES[k];
-    let start = STARTS[k];
-    let mut list = named(text, from, &name, UNNAMED[k]);
+    let name = name(k);
+    let mut list = named(text, from, &name, unnamed(k));
+    let start = start(k);
     let mut i = 0;
     while i < count {
         list = next(text, list);

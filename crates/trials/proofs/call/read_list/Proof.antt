@@ -1,35 +1,26 @@
---
+-- 
 use Prim.Native.Nat.{_-_}
 use borrow.Author.Needs.{needs}
 use Rattle.trials.proofs.call.read_list.Statement.{statement}
 use Rattle.trials.proofs.call.read_list.Tie as tie
 
 abbrev Inv-loop : tie.InvT-loop
-Inv-loop text from k count said₀ start list₀ i₀ said list i = Unit {0}
+Inv-loop text from k count said₀ list₀ start i₀ said list i = Unit {0}
 
 abbrev μ-loop : tie.MeasureT-loop
-μ-loop text from k count said₀ start list₀ i₀ said list i = count - i
+μ-loop text from k count said₀ list₀ start i₀ said list i = count - i
 
-mul-name : tie.Need-mul-name Inv-loop μ-loop
-mul-name c = search needs
+name-requires : tie.Need-name-requires Inv-loop μ-loop
+name-requires c κs = search needs
 
-array-copy-out-name : tie.Need-array-copy-out-name Inv-loop μ-loop
-array-copy-out-name c = search needs
-
-mul-start : tie.Need-mul-start Inv-loop μ-loop
-mul-start c = search needs
-
-array-read-start : tie.Need-array-read-start Inv-loop μ-loop
-array-read-start c = search needs
-
-mul-named : tie.Need-mul-named Inv-loop μ-loop
-mul-named c = search needs
-
-array-copy-out-named : tie.Need-array-copy-out-named Inv-loop μ-loop
-array-copy-out-named c = search needs
+unnamed-requires : tie.Need-unnamed-requires Inv-loop μ-loop
+unnamed-requires c κs = search needs
 
 named-requires : tie.Need-named-requires Inv-loop μ-loop
 named-requires c κs = search needs
+
+start-requires : tie.Need-start-requires Inv-loop μ-loop
+start-requires c κs = search needs
 
 loop-holds : tie.Need-loop-holds Inv-loop μ-loop
 loop-holds c = search needs
@@ -58,13 +49,10 @@ read-list-spec =
     (tie.spec
     Inv-loop
     μ-loop
-    mul-name
-    array-copy-out-name
-    mul-start
-    array-read-start
-    mul-named
-    array-copy-out-named
+    name-requires
+    unnamed-requires
     named-requires
+    start-requires
     loop-holds
     next-requires
     put-requires
