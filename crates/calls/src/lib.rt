@@ -1,9 +1,11 @@
-// A stored call: what is lent to a solver, and what must come out. Both solvers make it, each in buffers of its own, and are held to what is said. The
-// programs that read stored calls stand on this; like them it promises nothing but that it ends. They see to it that no list is longer than its room.
+// A stored call: what is lent to a solver, and what must come out. Both solvers make it, each in buffers of its own, and are held to what is said.
+// The programs that read stored calls stand on this, and they alone: they see to it that no list is longer than its room.
 mod numbers;
 mod same;
 
-ghost use Rattle.calls.specs.Fits.{Fits};
+ghost use mathlib.Core.Path.{_≡_};
+ghost use mathlib.Core.Bool.{true};
+ghost use Rattle.calls.specs.Kept.{Fits, Kept};
 pub use numbers::ANSWER;
 pub use numbers::CELLS;
 pub use numbers::COLUMN_PRICES;
@@ -55,17 +57,12 @@ pub struct Call {
 }
 
 // Costs and mask must be as they were lent.
-fn is_kept_by(
-    by_steps: bool,
-    n: usize,
-    budget: u32,
-    lengths: Lengths,
-    before: Before,
-    marks_said: bool,
-    said: &Numbers,
-) -> bool
-    requires { ⌜ Fits lengths ⌝ }
+fn is_kept_by(by_steps: bool, call: Call, said: &Numbers) -> bool
+    requires { ⌜ Fits (call .lengths) ⌝ }
+    ensures { λ r. ⌜ (r ≡ true → Kept call (now (said .entry))) ⌝ }
 {
+    let lengths = call.lengths;
+    let before = call.before;
     let costs_length = lengths.costs;
     let mask_length = lengths.mask;
     let working_length = lengths.working;
@@ -82,10 +79,10 @@ fn is_kept_by(
     let mut column_prices = [before.price; 65];
     let answer = solve_by(
         by_steps,
-        n,
+        call.n,
         &costs[..costs_length],
         &mask[..mask_length],
-        budget,
+        call.budget,
         &mut working[..working_length],
         &mut marks[..marks_length],
         &mut columns[..columns_length],
@@ -96,7 +93,7 @@ fn is_kept_by(
         & are_costs(said, COSTS, &costs, costs_length)
         & are_bytes(said, MASK, &mask, mask_length)
         & are_values(said, WORKING, &working, working_length)
-        & (!marks_said | are_bytes(said, MARKS, &marks, marks_length))
+        & (!call.marks_said | are_bytes(said, MARKS, &marks, marks_length))
         & are_columns(said, COLUMNS, &columns, columns_length)
         & are_prices(said, ROW_PRICES, &row_prices, row_length)
         & are_prices(said, COLUMN_PRICES, &column_prices, column_length)
@@ -105,25 +102,7 @@ fn is_kept_by(
 // By the port and by the quick solver.
 pub fn is_kept(call: Call, said: &Numbers) -> bool
     requires { ⌜ Fits (call .lengths) ⌝ }
+    ensures { λ r. ⌜ (r ≡ true → Kept call (now (said .entry))) ⌝ }
 {
-    let lengths = call.lengths;
-    let before = call.before;
-    is_kept_by(
-        true,
-        call.n,
-        call.budget,
-        lengths,
-        before,
-        call.marks_said,
-        said,
-    )
-        & is_kept_by(
-            false,
-            call.n,
-            call.budget,
-            lengths,
-            before,
-            call.marks_said,
-            said,
-        )
+    is_kept_by(true, call, said) & is_kept_by(false, call, said)
 }

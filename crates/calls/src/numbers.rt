@@ -1,5 +1,10 @@
-// The numbers of a call: list after list, each in a room of its own.
-ghost use Prim.Native.Nat.{_≤_};
+// The numbers that a stored call says: list after list, each in a room of its own.
+ghost use mathlib.Core.Path.{_≡_};
+ghost use mathlib.Core.Bool.{true};
+ghost use Prim.Native.Nat.{ℕ, _+_, _<_, _≤_};
+ghost use lib.IntN.{pos};
+ghost use lib.ListN.{getD, set};
+ghost use Rattle.calls.specs.Numbers.{cost-of, byte-of};
 
 // The room of a list with a number for each cell of 65 rows, and of one with a number for each line.
 pub const CELLS: usize = 4225;
@@ -28,8 +33,10 @@ const ALL: usize = 17_160;
 
 pub type Numbers = [i64; 17160];
 
-// The i-th number behind `start`; what lies outside the rooms is left out.
-pub fn put(said: &mut Numbers, start: usize, i: usize, number: i64) {
+// Says number i behind `start`; nothing outside the rooms.
+pub fn put(said: &mut Numbers, start: usize, i: usize, number: i64)
+    ensures { λ _. ⌜ (start + i < 17160 → now (said .exit) ≡ set (now (said .entry)) (start + i) number) ⌝ }
+{
     if ALL <= start {
         return;
     }
@@ -39,26 +46,23 @@ pub fn put(said: &mut Numbers, start: usize, i: usize, number: i64) {
     said[start + i] = number;
 }
 
-// The same, as it is said; 0 outside the rooms.
-pub(crate) fn number(said: &Numbers, start: usize, i: usize) -> i64 {
+// Is number i behind `start` this one?
+pub(crate) fn says(said: &Numbers, start: usize, i: usize, there: i64) -> bool
+    ensures { λ r. ⌜ (r ≡ true → getD (now (said .entry)) (start + i) (pos 0) ≡ there) ⌝ }
+{
     if ALL <= start {
-        return 0;
+        return false;
     }
     if ALL - start <= i {
-        return 0;
+        return false;
     }
-    said[start + i]
-}
-
-// No more than there is room for.
-pub(crate) fn least(count: usize, room: usize) -> usize
-    ensures { λ r. ⌜ r ≤ room ⌝ }
-{
-    if count < room { count } else { room }
+    said[start + i] == there
 }
 
 // A number as a cost; 0 where it is none.
-fn cost_of(number: i64) -> i32 {
+fn cost_of(number: i64) -> i32
+    ensures { λ r. ⌜ r ≡ cost-of number ⌝ }
+{
     if number < -2_147_483_648 {
         return 0;
     }
@@ -68,19 +72,10 @@ fn cost_of(number: i64) -> i32 {
     number as i32
 }
 
-pub(crate) fn costs_of(said: &Numbers, count: usize) -> [i32; 4225] {
-    let end = least(count, CELLS);
-    let mut costs = [0i32; 4225];
-    let mut i = 0;
-    while i < end {
-        costs[i] = cost_of(number(said, COSTS, i));
-        i += 1;
-    }
-    costs
-}
-
 // A number as a mask byte; 0 where it is none.
-fn byte_of(number: i64) -> u8 {
+fn byte_of(number: i64) -> u8
+    ensures { λ r. ⌜ r ≡ byte-of number ⌝ }
+{
     if number < 0 {
         return 0;
     }
@@ -90,12 +85,27 @@ fn byte_of(number: i64) -> u8 {
     number as u8
 }
 
-pub(crate) fn mask_of(said: &Numbers, count: usize) -> [u8; 4225] {
-    let end = least(count, CELLS);
+pub(crate) fn costs_of(said: &Numbers, count: usize) -> [i32; 4225]
+    requires { ⌜ count ≤ 4225 ⌝ }
+    ensures { λ r. ⌜ ((i : ℕ) → i < count → getD r i (pos 0) ≡ cost-of (getD (now (said .entry)) i (pos 0))) ⌝ }
+{
+    let mut costs = [0i32; 4225];
+    let mut i = 0;
+    while i < count {
+        costs[i] = cost_of(said[i]);
+        i += 1;
+    }
+    costs
+}
+
+pub(crate) fn mask_of(said: &Numbers, count: usize) -> [u8; 4225]
+    requires { ⌜ count ≤ 4225 ⌝ }
+    ensures { λ r. ⌜ ((i : ℕ) → i < count → getD r i 0 ≡ byte-of (getD (now (said .entry)) (4225 + i) (pos 0))) ⌝ }
+{
     let mut mask = [0u8; 4225];
     let mut i = 0;
-    while i < end {
-        mask[i] = byte_of(number(said, MASK, i));
+    while i < count {
+        mask[i] = byte_of(said[MASK + i]);
         i += 1;
     }
     mask

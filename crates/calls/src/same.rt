@@ -1,29 +1,49 @@
-// Are the first numbers of a buffer those that are said from `start` on?
+// Is what a call left in a buffer, and what it gave back, what is said from `start` on?
+ghost use mathlib.Core.Path.{_≡_};
+ghost use mathlib.Core.Bool.{true};
+ghost use lib.IntN.{pos};
+ghost use lib.ListN.{getD};
+ghost use Rattle.calls.specs.Numbers.{signed-of, Says, SaysAnswer};
 use crate::numbers::ANSWER;
 use crate::numbers::CELLS;
 use crate::numbers::LINES;
 use crate::numbers::Numbers;
-use crate::numbers::least;
-use crate::numbers::number;
+use crate::numbers::says;
 use steps::Answer;
 
-fn wide_cost(cost: i32) -> i64 {
+fn wide_cost(cost: i32) -> i64
+    ensures { λ r. ⌜ r ≡ cost ⌝ }
+{
     cost as i64
 }
 
-fn wide_byte(byte: u8) -> i64 {
+fn wide_byte(byte: u8) -> i64
+    ensures { λ r. ⌜ r ≡ pos byte ⌝ }
+{
     byte as i64
 }
 
-fn wide_column(column: u16) -> i64 {
+fn wide_column(column: u16) -> i64
+    ensures { λ r. ⌜ r ≡ pos column ⌝ }
+{
     column as i64
 }
 
-pub fn are_costs(said: &Numbers, start: usize, costs: &[i32; 4225], count: usize) -> bool {
-    let end = least(count, CELLS);
+fn wide_count(count: u32) -> i64
+    ensures { λ r. ⌜ r ≡ pos count ⌝ }
+{
+    count as i64
+}
+
+pub fn are_costs(said: &Numbers, start: usize, costs: &[i32; 4225], count: usize) -> bool
+    ensures { λ r. ⌜ (r ≡ true → Says (now (said .entry)) start count (λ i. getD (now (costs .entry)) i (pos 0))) ⌝ }
+{
+    if CELLS < count {
+        return false;
+    }
     let mut i = 0;
-    while i < end {
-        if number(said, start, i) != wide_cost(costs[i]) {
+    while i < count {
+        if !says(said, start, i, wide_cost(costs[i])) {
             return false;
         }
         i += 1;
@@ -31,11 +51,15 @@ pub fn are_costs(said: &Numbers, start: usize, costs: &[i32; 4225], count: usize
     true
 }
 
-pub fn are_bytes(said: &Numbers, start: usize, bytes: &[u8; 4225], count: usize) -> bool {
-    let end = least(count, CELLS);
+pub fn are_bytes(said: &Numbers, start: usize, bytes: &[u8; 4225], count: usize) -> bool
+    ensures { λ r. ⌜ (r ≡ true → Says (now (said .entry)) start count (λ i. pos (getD (now (bytes .entry)) i 0))) ⌝ }
+{
+    if CELLS < count {
+        return false;
+    }
     let mut i = 0;
-    while i < end {
-        if number(said, start, i) != wide_byte(bytes[i]) {
+    while i < count {
+        if !says(said, start, i, wide_byte(bytes[i])) {
             return false;
         }
         i += 1;
@@ -43,11 +67,15 @@ pub fn are_bytes(said: &Numbers, start: usize, bytes: &[u8; 4225], count: usize)
     true
 }
 
-pub(crate) fn are_values(said: &Numbers, start: usize, values: &[i64; 4225], count: usize) -> bool {
-    let end = least(count, CELLS);
+pub(crate) fn are_values(said: &Numbers, start: usize, values: &[i64; 4225], count: usize) -> bool
+    ensures { λ r. ⌜ (r ≡ true → Says (now (said .entry)) start count (λ i. getD (now (values .entry)) i (pos 0))) ⌝ }
+{
+    if CELLS < count {
+        return false;
+    }
     let mut i = 0;
-    while i < end {
-        if number(said, start, i) != values[i] {
+    while i < count {
+        if !says(said, start, i, values[i]) {
             return false;
         }
         i += 1;
@@ -55,11 +83,15 @@ pub(crate) fn are_values(said: &Numbers, start: usize, values: &[i64; 4225], cou
     true
 }
 
-pub(crate) fn are_columns(said: &Numbers, start: usize, columns: &[u16; 65], count: usize) -> bool {
-    let end = least(count, LINES);
+pub(crate) fn are_columns(said: &Numbers, start: usize, columns: &[u16; 65], count: usize) -> bool
+    ensures { λ r. ⌜ (r ≡ true → Says (now (said .entry)) start count (λ i. pos (getD (now (columns .entry)) i 0))) ⌝ }
+{
+    if LINES < count {
+        return false;
+    }
     let mut i = 0;
-    while i < end {
-        if number(said, start, i) != wide_column(columns[i]) {
+    while i < count {
+        if !says(said, start, i, wide_column(columns[i])) {
             return false;
         }
         i += 1;
@@ -67,11 +99,15 @@ pub(crate) fn are_columns(said: &Numbers, start: usize, columns: &[u16; 65], cou
     true
 }
 
-pub(crate) fn are_prices(said: &Numbers, start: usize, prices: &[i64; 65], count: usize) -> bool {
-    let end = least(count, LINES);
+pub(crate) fn are_prices(said: &Numbers, start: usize, prices: &[i64; 65], count: usize) -> bool
+    ensures { λ r. ⌜ (r ≡ true → Says (now (said .entry)) start count (λ i. getD (now (prices .entry)) i (pos 0))) ⌝ }
+{
+    if LINES < count {
+        return false;
+    }
     let mut i = 0;
-    while i < end {
-        if number(said, start, i) != prices[i] {
+    while i < count {
+        if !says(said, start, i, prices[i]) {
             return false;
         }
         i += 1;
@@ -80,7 +116,9 @@ pub(crate) fn are_prices(said: &Numbers, start: usize, prices: &[i64; 65], count
 }
 
 // In two's complement.
-fn signed(number: u64) -> i64 {
+fn signed(number: u64) -> i64
+    ensures { λ r. ⌜ r ≡ signed-of number ⌝ }
+{
     if number < 9_223_372_036_854_775_808 {
         return number as i64;
     }
@@ -88,22 +126,15 @@ fn signed(number: u64) -> i64 {
     !(less as i64)
 }
 
-// The fields of an answer, in the order in which a stored call has them.
-fn fields(answer: Answer) -> [i64; 65] {
-    let total = answer.total;
-    let mut fields = [0i64; 65];
-    fields[0] = answer.number as i64;
-    fields[1] = signed(answer.place as u64);
-    fields[2] = answer.adjustments as i64;
-    fields[3] = answer.primes as i64;
-    fields[4] = answer.augmentations as i64;
-    fields[5] = total;
-    fields[6] = signed(answer.block_rows);
-    fields[7] = signed(answer.block_columns);
-    fields
-}
-
-pub(crate) fn is_answer(said: &Numbers, answer: Answer) -> bool {
-    let fields = fields(answer);
-    are_prices(said, ANSWER, &fields, 8)
+pub(crate) fn is_answer(said: &Numbers, answer: Answer) -> bool
+    ensures { λ r. ⌜ (r ≡ true → SaysAnswer (now (said .entry)) answer) ⌝ }
+{
+    says(said, ANSWER, 0, wide_count(answer.number))
+        & says(said, ANSWER, 1, signed(answer.place as u64))
+        & says(said, ANSWER, 2, wide_count(answer.adjustments))
+        & says(said, ANSWER, 3, wide_count(answer.primes))
+        & says(said, ANSWER, 4, wide_count(answer.augmentations))
+        & says(said, ANSWER, 5, answer.total)
+        & says(said, ANSWER, 6, signed(answer.block_rows))
+        & says(said, ANSWER, 7, signed(answer.block_columns))
 }

@@ -1,6 +1,6 @@
 // One call of a trial, read from the text: what is lent, and what must come out.
 ghost use Prim.Native.Nat.{_<_};
-ghost use Rattle.calls.specs.Fits.{Fits};
+ghost use Rattle.calls.specs.Kept.{Fits};
 use crate::numbers::LARGEST;
 use crate::numbers::count_to;
 use crate::numbers::signed;

@@ -1,7 +1,12 @@
 -- `is_kept_by` lends as much of each list as it is long, which is there.
-use mathlib.Core.Path.{sym}
+use mathlib.Core.Path.{sym, _∙_}
 use lib.Seq.{length-take-le}
+use lib.IntN.{pos}
+use mir.Syntax.{w64}
+use Rattle.lines.proofs.Wide.{back}
 use borrow.Author.Needs.{needs}
+use Rattle.steps.specs.Lent.{buffers}
+use Rattle.calls.proofs.Saying.{both, counted, says-front, says-take, refilled}
 use Rattle.calls.proofs.is_kept_by.Statement.{statement}
 use Rattle.calls.proofs.is_kept_by.Tie as tie
 
@@ -81,7 +86,36 @@ are-prices-requires-2 : tie.Need-are-prices-requires-2
 are-prices-requires-2 c κs = search needs
 
 returns : tie.Need-returns
-returns c = search needs
+returns c = λ e.
+    let called = c .before .before .before .before .before .before .before .before .before .before .before .before .before .before .before .before .before .before .before .before .before in
+    let l = c .before .before .before .before .before .before .before .before .before .before .before .before .before .before .before .before .before .before .before .before .before .before .before .before .before .before .before .before .before .before .before .before .before .before .before .before .args .call .lengths in
+    let b = c .before .before .before .before .before .before .before .before .before .before .before .before .before .before .before .before .before .before .before .before .before .before .before .before .before .before .before .before .before .before .before .before .before .before .before .before .args .call .before in
+    let kept = called .solve-by .kept .1 .1 .1 .1 .1 in
+    let last = called .solve-by .last .1 .1 .1 .1 .1 in
+    let t8 = both _ _ e in
+    let t7 = both _ _ (t8 .0) in
+    let t6 = both _ _ (t7 .0) in
+    let t5 = both _ _ (t6 .0) in
+    let t4 = both _ _ (t5 .0) in
+    let t3 = both _ _ (t4 .0) in
+    let t2 = both _ _ (t3 .0) in
+    record {
+      costs = _;
+      mask = _;
+      answer = called .solve-by .result;
+      after = buffers (last .0) (last .1 .0) (last .1 .1 .0) (last .1 .1 .1 .0) (last .1 .1 .1 .1 .0);
+      solver = refilled l b (back w64 _ (c .before .before .before .before .before .before .before .before .before .before .before .before .before .before .before .before .before .before .before .before .before .before .before .before .before .before .before .before .before .before .before .struct-told .given .0 .1)) (back w64 _ (c .before .before .before .before .before .before .before .before .before .before .before .before .before .before .before .before .before .before .before .before .before .before .before .before .before .before .before .before .before .before .struct-told2 .given .1 .1 .1 .0 .1)) (called .solve-by .ensures);
+      costs-long = length-take-le _ _ (array-share-prefix-costs (c .before .before .before .before .before .before .before .before .before .before .before .before .before .before .before .before .before .before .before .before .before .before .before .before .before .before .before .before .before));
+      mask-long = length-take-le _ _ (array-share-prefix-mask (c .before .before .before .before .before .before .before .before .before .before .before .before .before .before .before .before .before .before .before .before .before .before .before .before .before .before .before .before));
+      says-costs = says-take (λ z. z) (pos 0) _ (c .before .before .before .before .before .before .before .before .before .before .before .before .before .are-costs .ensures (t2 .1));
+      says-mask = says-take (λ n. pos n) 0 _ (c .before .before .before .before .before .before .before .before .before .before .before .are-bytes .ensures (t3 .1));
+      says-answer = c .before .before .before .before .before .before .before .before .before .before .before .before .before .before .before .is-answer .ensures (t2 .0);
+      says-working = says-front (λ z. z) (pos 0) (last .0) _ (kept .0 ∙ length-take-le _ _ (array-borrow-prefix-working (c .before .before .before .before .before .before .before .before .before .before .before .before .before .before .before .before .before .before .before .before .before .before .before .before .before .before .before))) (c .before .before .before .before .before .before .before .before .before .are-values .ensures (t4 .1));
+      says-marks = λ m. says-front (λ n. pos n) 0 (last .1 .0) _ (kept .1 .0 ∙ length-take-le _ _ (array-borrow-prefix-marks (c .before .before .before .before .before .before .before .before .before .before .before .before .before .before .before .before .before .before .before .before .before .before .before .before .before .before))) (c .before .before .before .before .before .before .are-bytes2 .ensures (counted _ _ (t5 .1) m));
+      says-columns = says-front (λ n. pos n) 0 (last .1 .1 .0) _ (kept .1 .1 .0 ∙ length-take-le _ _ (array-borrow-prefix-columns (c .before .before .before .before .before .before .before .before .before .before .before .before .before .before .before .before .before .before .before .before .before .before .before .before .before))) (c .before .before .before .before .are-columns .ensures (t6 .1));
+      says-row-prices = says-front (λ z. z) (pos 0) (last .1 .1 .1 .0) _ (kept .1 .1 .1 .0 ∙ length-take-le _ _ (array-borrow-prefix-row-prices (c .before .before .before .before .before .before .before .before .before .before .before .before .before .before .before .before .before .before .before .before .before .before .before .before))) (c .before .before .are-prices .ensures (t7 .1));
+      says-column-prices = says-front (λ z. z) (pos 0) (last .1 .1 .1 .1 .0) _ (kept .1 .1 .1 .1 .0 ∙ length-take-le _ _ (array-borrow-prefix-column-prices (c .before .before .before .before .before .before .before .before .before .before .before .before .before .before .before .before .before .before .before .before .before .before .before))) (c .are-prices2 .ensures (t8 .1));
+    }
 
 pub is-kept-by-spec : {M : Type 1} → statement M
 is-kept-by-spec =

@@ -1,4 +1,4 @@
--- 
+--
 use lib.ListN.{length}
 use Prim.Native.Nat.{_-_}
 use borrow.Author.Needs.{needs}

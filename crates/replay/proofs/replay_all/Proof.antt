@@ -1,4 +1,4 @@
--- 
+--
 use borrow.Author.Needs.{needs}
 use Rattle.replay.proofs.replay_all.Statement.{statement}
 use Rattle.replay.proofs.replay_all.Tie as tie

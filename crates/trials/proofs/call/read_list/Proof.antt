@@ -1,4 +1,4 @@
--- 
+--
 use Prim.Native.Nat.{_-_}
 use borrow.Author.Needs.{needs}
 use Rattle.trials.proofs.call.read_list.Statement.{statement}
