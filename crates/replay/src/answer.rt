@@ -1,32 +1,48 @@
-// A record of the file `answers`: its matrix is solved again by both solvers, and answer and buffers are held against what the record says.
+// A record of the file `answers`, as a call: its matrix is lent again to both solvers, and what the crate gave back must come out.
 ghost use Prim.Native.Nat.{_≤_};
-use crate::Outcome;
 use crate::number;
-use crate::same::JUNK_BYTE;
-use crate::same::JUNK_COLUMN;
-use crate::same::JUNK_VALUE;
-use crate::same::after_bytes;
-use crate::same::after_columns;
-use crate::same::after_values;
-use steps::Answer;
+use crate::numbers::read;
+use calls::ANSWER;
+use calls::Before;
+use calls::COLUMN_PRICES;
+use calls::COLUMNS;
+use calls::COSTS;
+use calls::Call;
+use calls::Lengths;
+use calls::MARKS;
+use calls::MASK;
+use calls::Numbers;
+use calls::ROW_PRICES;
+use calls::WORKING;
+
+// What the buffers hold before the call, and still hold where nothing is stored.
+const JUNK_MARK: u8 = 85;
+
+const JUNK_COLUMN: u16 = 21_845;
+
+const JUNK_VALUE: i64 = 6_148_914_691_236_517_205;
 
 // Where the mask begins, behind sizes, budget, counts, total and block.
-const MASK: usize = 44;
+const MASK_AT: usize = 44;
 
-// The bit of a column in its row's bytes, which begin at `at`.
-fn bit(record: &[u8], at: usize, column: usize) -> u8 {
-    let eight = number::byte(record, number::onward(at, column / 8));
-    (eight >> (column % 8)) & 1
+fn wide(byte: u8) -> i64 {
+    byte as i64
 }
 
-// Reads the mask of n columns, and answers where the costs begin.
-fn read_mask(n: usize, record: &[u8], mask: &mut [u8]) -> usize {
+// The bit of a column in its row's bytes, which begin at `at`.
+fn bit(record: &[u8], at: usize, column: usize) -> i64 {
+    let eight = number::byte(record, number::onward(at, column / 8));
+    wide((eight >> (column % 8)) & 1)
+}
+
+// Reads the mask of n rows, and answers where the costs begin.
+fn read_mask(record: &[u8], n: usize, cells: usize, said: &mut Numbers) -> usize {
     let row_bytes = number::onward(n, 7) / 8;
-    let mut at = MASK;
+    let mut at = MASK_AT;
     let mut column = 0;
     let mut cell = 0;
-    while cell < mask.len() {
-        mask[cell] = bit(record, at, column);
+    while cell < cells {
+        calls::put(said, MASK, cell, bit(record, at, column));
         column = number::onward(column, 1);
         if column == n {
             column = 0;
@@ -37,149 +53,47 @@ fn read_mask(n: usize, record: &[u8], mask: &mut [u8]) -> usize {
     at
 }
 
-// Reads the costs from `start` on, and answers where they end.
-fn read_costs(record: &[u8], start: usize, width: usize, costs: &mut [i32]) -> usize {
-    let mut at = start;
-    let mut cell = 0;
-    while cell < costs.len() {
-        costs[cell] = number::cost(record, at, width);
-        at = number::onward(at, width);
-        cell += 1;
-    }
-    at
+// Number, counts, total and block; the place is 0.
+fn read_answer(record: &[u8], said: &mut Numbers) {
+    read(record, 1, 1, 0, said, ANSWER, 1);
+    read(record, 8, 4, 0, said, ANSWER + 2, 3);
+    read(record, 20, 8, 0, said, ANSWER + 5, 3);
 }
 
-fn is_answer(record: &[u8], answer: Answer) -> bool {
-    if answer.number != number::byte(record, 1) as u32 {
-        return false;
-    }
-    if answer.place != 0 {
-        return false;
-    }
-    if answer.adjustments != number::four(record, 8) {
-        return false;
-    }
-    if answer.primes != number::four(record, 12) {
-        return false;
-    }
-    if answer.augmentations != number::four(record, 16) {
-        return false;
-    }
-    if answer.total != number::value(record, 20, 8) {
-        return false;
-    }
-    if answer.block_rows != number::eight(record, 28) {
-        return false;
-    }
-    answer.block_columns == number::eight(record, 36)
-}
-
-// As stored, and one of the answers that the crate can give.
-fn outcome_of(number: u8) -> Outcome {
-    match number {
-        0 | 6 | 7 => Outcome::Same(number),
-        _ => Outcome::Different,
-    }
-}
-
-// Holds the answer, and what the call left in the buffers, against what is stored; columns and values are stored from `start` on.
-fn compare(
-    record: &[u8],
-    start: usize,
-    answer: Answer,
-    working: &[i64],
-    marks: &[u8],
-    columns: &[u16],
-    row_prices: &[i64],
-    column_prices: &[i64],
-) -> Outcome {
-    if !is_answer(record, answer) {
-        return Outcome::Different;
-    }
-    let number = number::byte(record, 1);
+// What is stored behind the costs: columns at number 0, and values unless their width is 0.
+fn read_left(record: &[u8], start: usize, n: usize, cells: usize, said: &mut Numbers) -> usize {
     let width = number::byte(record, 3) as usize;
-    if width == 0 {
-        if after_bytes(record, start, 0, marks) != start {
-            return Outcome::Different;
-        }
-    }
-    let rows_at = after_columns(record, start, (number == 0) as usize, columns);
-    let columns_at = after_values(record, rows_at, width, row_prices);
-    let working_at = after_values(record, columns_at, width, column_prices);
-    let end = after_values(record, working_at, width, working);
-    if end != record.len() {
-        return Outcome::Different;
-    }
-    outcome_of(number)
-}
-
-// Solves the matrix that was read, and compares.
-fn solve(
-    by_steps: bool,
-    n: usize,
-    record: &[u8],
-    start: usize,
-    costs: &[i32],
-    mask: &[u8],
-    working: &mut [i64],
-    marks: &mut [u8],
-    columns: &mut [u16],
-    row_prices: &mut [i64],
-    column_prices: &mut [i64],
-) -> Outcome {
-    let answer = solvers::solve_by(
-        by_steps,
+    let paired = (number::byte(record, 1) == 0) as usize;
+    let rows_at = read(record, start, paired, JUNK_COLUMN as i64, said, COLUMNS, n);
+    let columns_at = read(record, rows_at, width, JUNK_VALUE, said, ROW_PRICES, n);
+    let working_at = read(
+        record,
+        columns_at,
+        width,
+        JUNK_VALUE,
+        said,
+        COLUMN_PRICES,
         n,
-        costs,
-        mask,
-        number::four(record, 4),
-        working,
-        marks,
-        columns,
-        row_prices,
-        column_prices,
     );
-    compare(
-        record,
-        start,
-        answer,
-        working,
-        marks,
-        columns,
-        row_prices,
-        column_prices,
-    )
+    let end = read(record, working_at, width, JUNK_VALUE, said, WORKING, cells);
+    read(record, end, 0, JUNK_MARK as i64, said, MARKS, cells)
 }
 
-// `replay_by` in buffers of the lengths that n rows need.
-fn replay_in(
-    by_steps: bool,
-    n: usize,
-    record: &[u8],
-    costs: &mut [i32],
-    mask: &mut [u8],
-    working: &mut [i64],
-    marks: &mut [u8],
-    columns: &mut [u16],
-    row_prices: &mut [i64],
-    column_prices: &mut [i64],
-) -> Outcome {
+// Reads all numbers, and answers where they end.
+fn read_call(record: &[u8], n: usize, cells: usize, said: &mut Numbers) -> usize {
+    let costs_at = read_mask(record, n, cells, said);
     let width = number::byte(record, 2) as usize;
-    let costs_at = read_mask(n, record, mask);
-    let start = read_costs(record, costs_at, width, costs);
-    solve(
-        by_steps,
-        n,
-        record,
-        start,
-        costs,
-        mask,
-        working,
-        marks,
-        columns,
-        row_prices,
-        column_prices,
-    )
+    let start = read(record, costs_at, width, 0, said, COSTS, cells);
+    read_answer(record, said);
+    read_left(record, start, n, cells, said)
+}
+
+// The numbers that the crate can give.
+fn is_number(number: u8) -> bool {
+    match number {
+        0 | 6 | 7 => true,
+        _ => false,
+    }
 }
 
 // The cells of n rows.
@@ -190,38 +104,37 @@ fn cells_of(n: usize) -> usize
     n * n
 }
 
-// Solves the record's matrix again, in buffers that hold junk before, and compares.
-fn replay_by(by_steps: bool, record: &[u8]) -> Outcome {
+pub(crate) fn is_same(record: &[u8]) -> bool {
     let n = number::byte(record, 0) as usize;
     if 64 < n {
-        return Outcome::Different;
+        return false;
     }
     let cells = cells_of(n);
-    let mut costs = [0i32; 4096];
-    let mut mask = [0u8; 4096];
-    let mut working = [JUNK_VALUE; 4096];
-    let mut marks = [JUNK_BYTE; 4096];
-    let mut columns = [JUNK_COLUMN; 64];
-    let mut row_prices = [JUNK_VALUE; 64];
-    let mut column_prices = [JUNK_VALUE; 64];
-    replay_in(
-        by_steps,
-        n,
-        record,
-        &mut costs[..cells],
-        &mut mask[..cells],
-        &mut working[..cells],
-        &mut marks[..cells],
-        &mut columns[..n],
-        &mut row_prices[..n],
-        &mut column_prices[..n],
-    )
-}
-
-// The same by the port and by the quick solver: as stored where both are.
-pub(crate) fn replay(record: &[u8]) -> Outcome {
-    match replay_by(true, record) {
-        Outcome::Same(_) => replay_by(false, record),
-        Outcome::Different => Outcome::Different,
+    let mut said = [0i64; 17160];
+    if read_call(record, n, cells, &mut said) != record.len() {
+        return false;
     }
+    let lengths = Lengths {
+        costs: cells,
+        mask: cells,
+        working: cells,
+        marks: cells,
+        columns: n,
+        row_prices: n,
+        column_prices: n,
+    };
+    let before = Before {
+        working: JUNK_VALUE,
+        mark: JUNK_MARK,
+        column: JUNK_COLUMN,
+        price: JUNK_VALUE,
+    };
+    let call = Call {
+        n,
+        budget: number::four(record, 4),
+        lengths,
+        before,
+        marks_said: number::byte(record, 3) == 0,
+    };
+    calls::is_kept(call, &said) & is_number(number::byte(record, 1))
 }

@@ -1,10 +1,9 @@
 // A record of the file `files`: its case file is read again, and every answer is held against what the record says.
-use crate::Outcome;
 use crate::number;
-use crate::same::JUNK_BYTE;
-use crate::same::JUNK_COST;
-use crate::same::after_bytes;
-use crate::same::after_costs;
+use crate::numbers::read;
+use calls::CELLS;
+use calls::COSTS;
+use calls::MASK;
 use storm_case::Case;
 use storm_case::Found;
 use storm_case::Hut;
@@ -12,8 +11,12 @@ use storm_case::Hut;
 // Where the file begins, behind the numbers.
 const FILE: usize = 20;
 
-// The longest room that is lent.
-const LONGEST: usize = 4112;
+// What the room holds before, and still holds where nothing is stored.
+const JUNK_COST: i32 = -1_431_655_766;
+
+const UNTOUCHED: i64 = -1_431_655_766;
+
+const JUNK_BYTE: u8 = 85;
 
 // What a hut is compared as where it is absent.
 const ABSENT: u32 = 65_536;
@@ -41,55 +44,49 @@ fn after_huts(record: &[u8], start: usize, rows: usize, file: &[u8]) -> usize {
 
 // Rows that are not there: the one behind the last, and some further on.
 fn are_absent(file: &[u8], rows: usize) -> bool {
-    if !is_hut(file, rows, ABSENT) {
-        return false;
-    }
-    if !is_hut(file, number::onward(rows, 1), ABSENT) {
-        return false;
-    }
-    if !is_hut(file, 64, ABSENT) {
-        return false;
-    }
-    is_hut(file, 18_446_744_073_709_551_615, ABSENT)
+    is_hut(file, rows, ABSENT)
+        & is_hut(file, number::onward(rows, 1), ABSENT)
+        & is_hut(file, 64, ABSENT)
+        & is_hut(file, 18_446_744_073_709_551_615, ABSENT)
 }
 
 fn is_case(record: &[u8], case: Case) -> bool {
-    if case.number != number::byte(record, 0) as u32 {
-        return false;
-    }
-    if case.n != number::byte(record, 1) as usize {
-        return false;
-    }
-    if case.place != number::four(record, 4) as usize {
-        return false;
-    }
-    case.window == number::four(record, 8)
+    (case.number == number::byte(record, 0) as u32)
+        & (case.n == number::byte(record, 1) as usize)
+        & (case.place == number::four(record, 4) as usize)
+        & (case.window == number::four(record, 8))
 }
 
-// Where the cells end that are stored from `start` on, costs before mask.
+// Where the cells end that are stored from `start` on, costs before mask; behind every record where the room holds others.
 fn after_cells(
     record: &[u8],
     start: usize,
     cells: usize,
-    costs: &[i32; 4112],
-    mask: &[u8; 4112],
+    costs: &[i32; 4225],
+    mask: &[u8; 4225],
 ) -> usize {
-    let mask_at = after_costs(record, start, cells, costs);
-    after_bytes(record, mask_at, cells, mask)
+    let mut said = [UNTOUCHED; 17160];
+    read(record, start, 0, JUNK_BYTE as i64, &mut said, MASK, CELLS);
+    let mask_at = read(record, start, 4, 0, &mut said, COSTS, cells);
+    let end = read(record, mask_at, 1, 0, &mut said, MASK, cells);
+    if calls::are_costs(&said, COSTS, costs, CELLS) & calls::are_bytes(&said, MASK, mask, CELLS) {
+        return end;
+    }
+    number::BEHIND
 }
 
-// Reads the file into a room of the lengths that are stored, which holds junk before. Where its cells end that are stored from `start` on.
+// Reads the file into a room of the lengths that are stored. Where its cells end that are stored from `start` on.
 fn after_case(record: &[u8], start: usize, file: &[u8]) -> usize {
     let room = number::two(record, 12) as usize;
     let mask_room = number::two(record, 14) as usize;
-    if LONGEST < room {
+    if CELLS < room {
         return number::BEHIND;
     }
-    if LONGEST < mask_room {
+    if CELLS < mask_room {
         return number::BEHIND;
     }
-    let mut costs = [JUNK_COST; 4112];
-    let mut mask = [JUNK_BYTE; 4112];
+    let mut costs = [JUNK_COST; 4225];
+    let mut mask = [JUNK_BYTE; 4225];
     let case = storm_case::read_case(file, &mut costs[..room], &mut mask[..mask_room]);
     if !is_case(record, case) {
         return number::BEHIND;
@@ -108,11 +105,20 @@ fn is_found(file: &[u8], offset: usize, stored: u8) -> bool {
 }
 
 // Where the body ends that is stored from `start` on.
-fn after_part(record: &[u8], start: usize, length: usize, body: &[u8]) -> usize {
-    if body.len() != length {
+fn after_body(record: &[u8], start: usize, count: usize, body: &[u8]) -> usize {
+    if body.len() != count {
         return number::BEHIND;
     }
-    after_bytes(record, start, length, body)
+    let mut at = start;
+    let mut i = 0;
+    while i < body.len() {
+        if number::byte(record, at) != body[i] {
+            return number::BEHIND;
+        }
+        at = number::onward(at, 1);
+        i += 1;
+    }
+    at
 }
 
 // Where the answer at one offset ends that is stored from `at` on.
@@ -122,7 +128,7 @@ fn after_offset(record: &[u8], at: usize, file: &[u8]) -> usize {
         return number::BEHIND;
     }
     let length = number::byte(record, number::onward(at, 9)) as usize;
-    after_part(
+    after_body(
         record,
         number::onward(at, 10),
         length,
@@ -141,27 +147,24 @@ fn after_offsets(record: &[u8], start: usize, count: usize, file: &[u8]) -> usiz
 }
 
 // The file's answers, stored from `start` on.
-fn replay_file(record: &[u8], start: usize, file: &[u8]) -> Outcome {
+fn are_answers(record: &[u8], start: usize, file: &[u8]) -> bool {
     let rows = number::byte(record, 2) as usize;
     if !are_absent(file, rows) {
-        return Outcome::Different;
+        return false;
     }
     let cells_at = after_huts(record, start, rows, file);
     let offsets_at = after_case(record, cells_at, file);
     let end = after_offsets(record, offsets_at, number::byte(record, 3) as usize, file);
-    if end != record.len() {
-        return Outcome::Different;
-    }
-    Outcome::Same(number::byte(record, 0))
+    end == record.len()
 }
 
-pub(crate) fn replay(record: &[u8]) -> Outcome {
+pub(crate) fn is_same(record: &[u8]) -> bool {
     let end = number::onward(FILE, number::two(record, 16) as usize);
     if record.len() < end {
-        return Outcome::Different;
+        return false;
     }
     if end < FILE {
-        return Outcome::Different;
+        return false;
     }
-    replay_file(record, end, &record[FILE..end])
+    are_answers(record, end, &record[FILE..end])
 }

@@ -1,165 +1,160 @@
-// Replays stored answers: of the published crate munkres, on the solver (the file `answers`), and of the rules of the case file, on the case
+// Replays stored answers: of the published crate munkres, on the solvers (the file `answers`), and of the rules of the case file, on the case
 // reader (`files`). rust/oracle/README.md and rust/cases/README.md have the formats; a record has its length before it in both.
 mod answer;
 mod file;
 mod number;
-mod same;
+mod numbers;
 
 use libc::STDOUT_FILENO;
 
 // More records than there are.
 const MANY: u64 = 1_000_000;
 
-// What replaying a record came to: as stored, with its number, or not as stored.
-pub(crate) enum Outcome {
-    Same(u8),
-    Different,
-}
+// What the next record came to: its number where it is as stored; else that it is not; that it is not and none can follow; or that there is none.
+const DIFFERENT: usize = 124;
 
-// How many records there were, and how many were as stored; whether another may follow.
-struct Tally {
-    records: u64,
-    equal: u64,
-    different: u64,
-    more: bool,
-}
+const CUT: usize = 125;
 
-fn raised(count: u64) -> u64 {
-    if count < MANY {
-        return count + 1;
-    }
-    count
-}
+const END: usize = 126;
 
-// One more record that is as stored, with this number.
-fn as_stored(mut tally: Tally, number: u8, numbers: &mut [u64; 256]) -> Tally {
-    let at = number as usize;
-    numbers[at] = raised(numbers[at]);
-    tally.records = raised(tally.records);
-    tally.equal = raised(tally.equal);
-    tally
-}
+// How many records are as stored, by their number; how many are, how many are not, and how many there are.
+type Counts = [u64; 128];
 
-// Says which record is not as stored; the first is record 0.
-fn differs(mut tally: Tally) -> Tally {
-    print_count(b"different: record ", tally.records);
-    io::write_all(STDOUT_FILENO, b"\n");
-    tally.records = raised(tally.records);
-    tally.different = raised(tally.different);
-    tally
-}
+const EQUAL: usize = 123;
 
-fn stopped(mut tally: Tally) -> Tally {
-    tally.more = false;
-    tally
-}
+const RECORDS: usize = 127;
 
-fn replay(answers: bool, record: &[u8]) -> Outcome {
+fn is_same(answers: bool, record: &[u8]) -> bool {
     if answers {
-        return answer::replay(record);
+        return answer::is_same(record);
     }
-    file::replay(record)
-}
-
-// Four bytes 0 were read: nothing may follow them.
-fn replay_end(fd: i32, tally: Tally) -> Tally {
-    let mut rest = [0u8; 1];
-    if io::read_full(fd, &mut rest) == 0 {
-        return stopped(tally);
-    }
-    stopped(differs(tally))
+    file::is_same(record)
 }
 
 // Reads a record of the buffer's length and replays it.
-fn replay_record(
-    fd: i32,
-    answers: bool,
-    record: &mut [u8],
-    tally: Tally,
-    numbers: &mut [u64; 256],
-) -> Tally {
+fn replay(fd: i32, answers: bool, record: &mut [u8]) -> usize {
     if io::read_full(fd, record) < record.len() {
-        return stopped(differs(tally));
+        return CUT;
     }
-    match replay(answers, record) {
-        Outcome::Same(number) => as_stored(tally, number, numbers),
-        Outcome::Different => differs(tally),
+    if is_same(answers, record) {
+        return number::byte(record, answers as usize) as usize;
     }
+    DIFFERENT
 }
 
-fn replay_next(fd: i32, answers: bool, tally: Tally, numbers: &mut [u64; 256]) -> Tally {
+// Nothing may follow the last record.
+fn replay_end(fd: i32) -> usize {
+    let mut rest = [0u8; 1];
+    if io::read_full(fd, &mut rest) == 0 {
+        return END;
+    }
+    CUT
+}
+
+// The length of the next record, 0 behind the last; longer than any record where it is cut off.
+fn next_length(fd: i32) -> usize {
     let mut size = [0u8; 4];
     if io::read_full(fd, &mut size) < 4 {
-        return stopped(differs(tally));
+        return number::BEHIND;
     }
-    let length = number::four(&size, 0) as usize;
+    number::four(&size, 0) as usize
+}
+
+fn replay_next(fd: i32, answers: bool) -> usize {
+    let length = next_length(fd);
     if length == 0 {
-        return replay_end(fd, tally);
+        return replay_end(fd);
     }
     if number::BEHIND <= length {
-        return stopped(differs(tally));
+        return CUT;
     }
     let mut record = io::large_buffer();
-    replay_record(fd, answers, &mut record[..length], tally, numbers)
+    replay(fd, answers, &mut record[..length])
 }
 
-// All records behind the header; `numbers` counts those of each number that are as stored.
-fn replay_all(fd: i32, answers: bool, numbers: &mut [u64; 256]) -> Tally {
-    let mut header = [0u8; 128];
-    io::read_full(fd, &mut header);
-    let mut tally = Tally {
-        records: 0,
-        equal: 0,
-        different: 0,
-        more: true,
-    };
-    let mut turns = MANY;
-    while turns > 0 && tally.more {
-        tally = replay_next(fd, answers, tally, numbers);
-        turns -= 1;
-    }
-    tally
-}
-
-fn print_count(what: &[u8], count: u64) {
-    io::write_all(STDOUT_FILENO, what);
-    io::print_decimal(STDOUT_FILENO, count);
-}
-
-fn print_numbers(answers: bool, numbers: &[u64; 256]) {
-    if answers {
-        print_count(b"paired ", numbers[0]);
-        print_count(b"\nno pairing ", numbers[6]);
-        print_count(b"\nunfinished ", numbers[7]);
+fn count(counts: &mut Counts, at: usize) {
+    if 127 < at {
         return;
     }
-    print_count(b"accepted ", numbers[0]);
-    print_count(b"\nnumber 20: ", numbers[20]);
-    print_count(b"\nnumber 21: ", numbers[21]);
-    print_count(b"\nnumber 22: ", numbers[22]);
-    print_count(b"\nnumber 23: ", numbers[23]);
-    print_count(b"\nnumber 24: ", numbers[24]);
-    print_count(b"\nnumber 25: ", numbers[25]);
-    print_count(b"\nnumber 26: ", numbers[26]);
+    if counts[at] < MANY {
+        counts[at] += 1;
+    }
 }
 
-fn replay_stored(path: &[u8], answers: bool, what: &[u8]) {
+// Says which record is not as stored; the first is record 0.
+fn print_different(record: u64) {
+    io::write_all(STDOUT_FILENO, b"different: record ");
+    io::print_decimal(STDOUT_FILENO, record);
+    io::write_all(STDOUT_FILENO, b"\n");
+}
+
+fn note(outcome: usize, counts: &mut Counts) {
+    if outcome == END {
+        return;
+    }
+    if outcome < EQUAL {
+        count(counts, outcome);
+        count(counts, EQUAL);
+    } else {
+        print_different(counts[RECORDS]);
+        count(counts, DIFFERENT);
+    }
+    count(counts, RECORDS);
+}
+
+// All records behind the header.
+fn replay_all(fd: i32, answers: bool, counts: &mut Counts) {
+    let mut header = [0u8; 128];
+    io::read_full(fd, &mut header);
+    let mut turns = MANY;
+    let mut outcome = 0;
+    while turns > 0 && outcome < CUT {
+        outcome = replay_next(fd, answers);
+        note(outcome, counts);
+        turns -= 1;
+    }
+}
+
+// A byte from 128 on stands for a count.
+fn print_one(byte: u8, counts: &Counts) {
+    if byte < 128 {
+        let one = [byte];
+        io::write_all(STDOUT_FILENO, &one);
+        return;
+    }
+    let at = (byte - 128) as usize;
+    io::print_decimal(STDOUT_FILENO, counts[at]);
+}
+
+fn print(form: &[u8], counts: &Counts) {
+    let mut i = 0;
+    while i < form.len() {
+        print_one(form[i], counts);
+        i += 1;
+    }
+}
+
+fn replay_stored(path: &[u8], answers: bool, form: &[u8]) {
     let fd = os::open_read(path);
     if fd < 0 {
         os::fail(path);
         return;
     }
-    let mut numbers = [0u64; 256];
-    let tally = replay_all(fd, answers, &mut numbers);
+    let mut counts = [0u64; 128];
+    replay_all(fd, answers, &mut counts);
     libc::close(fd);
-    print_numbers(answers, &numbers);
-    print_count(b"\nreplayed ", tally.records);
-    print_count(what, tally.equal);
-    print_count(b" equal, ", tally.different);
-    io::write_all(STDOUT_FILENO, b" different\n");
+    print(form, &counts);
 }
 
 fn main() {
-    replay_stored(b"answers", true, b" answers of the crate: ");
-    replay_stored(b"files", false, b" files: ");
+    replay_stored(
+        b"answers",
+        true,
+        b"paired \x80\nno pairing \x86\nunfinished \x87\nreplayed \xff answers of the crate: \xfb equal, \xfc different\n",
+    );
+    replay_stored(
+        b"files",
+        false,
+        b"accepted \x80\nnumber 20: \x94\nnumber 21: \x95\nnumber 22: \x96\nnumber 23: \x97\nnumber 24: \x98\nnumber 25: \x99\nnumber 26: \x9a\nreplayed \xff files: \xfb equal, \xfc different\n",
+    );
 }

@@ -63,25 +63,12 @@ fn extended(record: &[u8], at: usize, width: usize) -> u32 {
     x
 }
 
-fn signed_32(x: u32) -> i32 {
-    if x < 2_147_483_648 {
-        return x as i32;
-    }
-    let less = 4_294_967_295 - x;
-    !(less as i32)
-}
-
 fn signed_64(x: u64) -> i64 {
     if x < 9_223_372_036_854_775_808 {
         return x as i64;
     }
     let less = 18_446_744_073_709_551_615 - x;
     !(less as i64)
-}
-
-// A cost of 1, 2 or 4 bytes.
-pub(crate) fn cost(record: &[u8], at: usize, width: usize) -> i32 {
-    signed_32(extended(record, at, width))
 }
 
 // A number of 32 bits as one of 64, with its sign.

@@ -1,14 +1,13 @@
 // The compiled solvers, tried. The file `trials` says on what, and what must come out; its head has the format. A line for each group; a trial
 // that failed prints its name, and so does one that is not written as it must be, which ends the run.
 mod call;
-mod list;
 mod numbers;
 mod tally;
 mod words;
 
+use call::Tried;
 use call::call;
 use libc::STDOUT_FILENO;
-use list::List;
 use tally::Tally;
 use words::BEHIND;
 use words::after_word;
@@ -32,29 +31,37 @@ fn print_line(what: &[u8], text: &[u8], from: usize) {
     io::write_all(STDOUT_FILENO, b"\n");
 }
 
+// A later call: passed only where the earlier one was too.
+fn both(earlier: Tried, later: Tried) -> Tried {
+    Tried {
+        at: later.at,
+        passed: earlier.passed & later.passed,
+    }
+}
+
 // All calls of a trial.
-fn calls(text: &[u8], from: usize) -> List {
-    let mut list = call(text, from);
-    let mut next = after_word(text, list.at, b"and");
+fn calls(text: &[u8], from: usize) -> Tried {
+    let mut tried = call(text, from);
+    let mut next = after_word(text, tried.at, b"and");
     let mut turns = BEHIND;
     while turns > 0 && next != BEHIND {
-        list = list::both(list, call(text, next));
-        next = after_word(text, list.at, b"and");
+        tried = both(tried, call(text, next));
+        next = after_word(text, tried.at, b"and");
         turns -= 1;
     }
-    list
+    tried
 }
 
 fn try_one(text: &[u8], name: usize, tally: Tally) -> Tally {
-    let list = calls(text, line_end(text, name));
-    if list.at == BEHIND {
+    let tried = calls(text, line_end(text, name));
+    if tried.at == BEHIND {
         print_line(b"MISREAD", text, name);
         return tally::stopped(tally);
     }
-    if !list.same {
+    if !tried.passed {
         print_line(b"FAILED", text, name);
     }
-    tally::counted(tally, list.at, list.same)
+    tally::counted(tally, tried.at, tried.passed)
 }
 
 fn end_group(text: &[u8], from: usize, tally: Tally) -> Tally {

@@ -41,11 +41,11 @@ pub(crate) fn line_end(text: &[u8], from: usize) -> usize {
     at
 }
 
-// Where this word ends if it is the next; otherwise behind every text.
+// Where this word, which ends at a blank, ends if it is the next; otherwise behind every text.
 pub(crate) fn after_word(text: &[u8], from: usize, word: &[u8]) -> usize {
     let mut at = next_word(text, from);
     let mut i = 0;
-    while i < word.len() {
+    while i < word.len() && !is_blank(word[i]) {
         if text.len() <= at {
             return BEHIND;
         }

@@ -1,13 +1,13 @@
--- `replay_all` ends: its measure is the number of turns that are left. Nothing has to hold from turn to turn.
+--
 use borrow.Author.Needs.{needs}
 use Rattle.replay.proofs.replay_all.Statement.{statement}
 use Rattle.replay.proofs.replay_all.Tie as tie
 
 abbrev Inv-loop : tie.InvT-loop
-Inv-loop fd answers numbers₀ tally₀ turns₀ numbers tally turns = Unit {0}
+Inv-loop fd answers counts₀ turns₀ outcome₀ counts turns outcome = Unit {0}
 
 abbrev μ-loop : tie.MeasureT-loop
-μ-loop fd answers numbers₀ tally₀ turns₀ numbers tally turns = turns
+μ-loop fd answers counts₀ turns₀ outcome₀ counts turns outcome = turns
 
 slice-aggregate-read-full : tie.Need-slice-aggregate-read-full Inv-loop μ-loop
 slice-aggregate-read-full c = search needs
@@ -20,6 +20,9 @@ loop-holds c = search needs
 
 replay-next-requires : tie.Need-replay-next-requires Inv-loop μ-loop
 replay-next-requires c κs = search needs
+
+note-requires : tie.Need-note-requires Inv-loop μ-loop
+note-requires c κs = search needs
 
 sub-turns : tie.Need-sub-turns Inv-loop μ-loop
 sub-turns c = search needs
@@ -46,6 +49,7 @@ replay-all-spec =
     read-full-requires
     loop-holds
     replay-next-requires
+    note-requires
     sub-turns
     loop-less
     loop-again

@@ -4,10 +4,10 @@ use Rattle.trials.proofs.calls.Statement.{statement}
 use Rattle.trials.proofs.calls.Tie as tie
 
 abbrev Inv-loop : tie.InvT-loop
-Inv-loop text from list₀ next₀ turns₀ t7 list next turns = Unit {0}
+Inv-loop text from tried₀ next₀ turns₀ t7 tried next turns = Unit {0}
 
 abbrev μ-loop : tie.MeasureT-loop
-μ-loop text from list₀ next₀ turns₀ t7 list next turns = turns
+μ-loop text from tried₀ next₀ turns₀ t7 tried next turns = turns
 
 call-requires : tie.Need-call-requires Inv-loop μ-loop
 call-requires c κs = search needs

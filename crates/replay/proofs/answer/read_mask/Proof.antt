@@ -1,16 +1,14 @@
--- `read_mask` writes within the mask and ends. The loop keeps its length.
+--
 use Prim.Native.Nat.{_-_}
-use mathlib.Core.Path.{_≡_}
-use lib.ListN.{length}
 use borrow.Author.Needs.{needs}
 use Rattle.replay.proofs.answer.read_mask.Statement.{statement}
 use Rattle.replay.proofs.answer.read_mask.Tie as tie
 
 abbrev Inv-loop : tie.InvT-loop
-Inv-loop n «record» mask₀ row-bytes at₀ column₀ cell₀ mask at column cell = length mask ≡ length mask₀
+Inv-loop «record» n cells said₀ row-bytes at₀ column₀ cell₀ said at column cell = Unit {0}
 
 abbrev μ-loop : tie.MeasureT-loop
-μ-loop n «record» mask₀ row-bytes at₀ column₀ cell₀ mask at column cell = length mask₀ - cell
+μ-loop «record» n cells said₀ row-bytes at₀ column₀ cell₀ said at column cell = cells - cell
 
 onward-requires : tie.Need-onward-requires Inv-loop μ-loop
 onward-requires c κs = search needs
@@ -21,8 +19,8 @@ loop-holds c = search needs
 bit-requires : tie.Need-bit-requires Inv-loop μ-loop
 bit-requires c κs = search needs
 
-slice-write-mask : tie.Need-slice-write-mask Inv-loop μ-loop
-slice-write-mask c = search needs
+put-requires : tie.Need-put-requires Inv-loop μ-loop
+put-requires c κs = search needs
 
 onward-requires-2 : tie.Need-onward-requires-2 Inv-loop μ-loop
 onward-requires-2 c κs = search needs
@@ -39,9 +37,6 @@ loop-less c = search needs
 loop-again : tie.Need-loop-again Inv-loop μ-loop
 loop-again c = search needs
 
-same-length : tie.Need-same-length Inv-loop μ-loop
-same-length c = search needs
-
 returns : tie.Need-returns Inv-loop μ-loop
 returns c = search needs
 
@@ -54,11 +49,10 @@ read-mask-spec =
     onward-requires
     loop-holds
     bit-requires
-    slice-write-mask
+    put-requires
     onward-requires-2
     onward-requires-3
     add-cell
     loop-less
     loop-again
-    same-length
     returns)

@@ -1,4 +1,4 @@
--- `digits` reads within the text and ends. Nothing has to hold from turn to turn.
+--
 use lib.ListN.{length}
 use Prim.Native.Nat.{_-_}
 use borrow.Author.Needs.{needs}
@@ -6,10 +6,10 @@ use Rattle.trials.proofs.numbers.digits.Statement.{statement}
 use Rattle.trials.proofs.numbers.digits.Tie as tie
 
 abbrev Inv-loop : tie.InvT-loop
-Inv-loop text start minus limit number₀ at₀ number at = Unit {0}
+Inv-loop text start limit number₀ at₀ number at = Unit {0}
 
 abbrev μ-loop : tie.MeasureT-loop
-μ-loop text start minus limit number₀ at₀ number at = length text - at
+μ-loop text start limit number₀ at₀ number at = length text - at
 
 loop-holds : tie.Need-loop-holds Inv-loop μ-loop
 loop-holds c = search needs

@@ -1,4 +1,4 @@
--- `after_word` reads within the word and ends. Nothing has to hold from turn to turn.
+--
 use lib.ListN.{length}
 use Prim.Native.Nat.{_-_}
 use borrow.Author.Needs.{needs}
@@ -17,14 +17,20 @@ next-word-requires c κs = search needs
 loop-holds : tie.Need-loop-holds Inv-loop μ-loop
 loop-holds c = search needs
 
+shared-slice-read-is-blank : tie.Need-shared-slice-read-is-blank Inv-loop μ-loop
+shared-slice-read-is-blank c = search needs
+
+is-blank-requires : tie.Need-is-blank-requires Inv-loop μ-loop
+is-blank-requires c κs = search needs
+
 returns : tie.Need-returns Inv-loop μ-loop
 returns c = search needs
 
-shared-slice-read-if2 : tie.Need-shared-slice-read-if2 Inv-loop μ-loop
-shared-slice-read-if2 c = search needs
+shared-slice-read-if3 : tie.Need-shared-slice-read-if3 Inv-loop μ-loop
+shared-slice-read-if3 c = search needs
 
-shared-slice-read-if2-2 : tie.Need-shared-slice-read-if2-2 Inv-loop μ-loop
-shared-slice-read-if2-2 c = search needs
+shared-slice-read-if3-2 : tie.Need-shared-slice-read-if3-2 Inv-loop μ-loop
+shared-slice-read-if3-2 c = search needs
 
 returns-2 : tie.Need-returns-2 Inv-loop μ-loop
 returns-2 c = search needs
@@ -44,11 +50,11 @@ loop-again c = search needs
 returns-3 : tie.Need-returns-3 Inv-loop μ-loop
 returns-3 c = search needs
 
-shared-slice-read-is-blank : tie.Need-shared-slice-read-is-blank Inv-loop μ-loop
-shared-slice-read-is-blank c = search needs
+shared-slice-read-is-blank-2 : tie.Need-shared-slice-read-is-blank-2 Inv-loop μ-loop
+shared-slice-read-is-blank-2 c = search needs
 
-is-blank-requires : tie.Need-is-blank-requires Inv-loop μ-loop
-is-blank-requires c κs = search needs
+is-blank-requires-2 : tie.Need-is-blank-requires-2 Inv-loop μ-loop
+is-blank-requires-2 c κs = search needs
 
 returns-4 : tie.Need-returns-4 Inv-loop μ-loop
 returns-4 c = search needs
@@ -64,16 +70,18 @@ after-word-spec =
     μ-loop
     next-word-requires
     loop-holds
+    shared-slice-read-is-blank
+    is-blank-requires
     returns
-    shared-slice-read-if2
-    shared-slice-read-if2-2
+    shared-slice-read-if3
+    shared-slice-read-if3-2
     returns-2
     add-at
     add-i
     loop-less
     loop-again
     returns-3
-    shared-slice-read-is-blank
-    is-blank-requires
+    shared-slice-read-is-blank-2
+    is-blank-requires-2
     returns-4
     returns-5)

@@ -1,0 +1,2 @@
+mod Narrow
+mod Saying
