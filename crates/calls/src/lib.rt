@@ -6,6 +6,7 @@ mod same;
 ghost use mathlib.Core.Path.{_≡_};
 ghost use mathlib.Core.Bool.{true};
 ghost use Rattle.calls.specs.Kept.{Fits, Kept};
+pub use numbers::ALL;
 pub use numbers::ANSWER;
 pub use numbers::CELLS;
 pub use numbers::COLUMN_PRICES;
@@ -72,11 +73,11 @@ fn is_kept_by(by_steps: bool, call: Call, said: &Numbers) -> bool
     let column_length = lengths.column_prices;
     let costs = costs_of(said, costs_length);
     let mask = mask_of(said, mask_length);
-    let mut working = [before.working; 4225];
-    let mut marks = [before.mark; 4225];
-    let mut columns = [before.column; 65];
-    let mut row_prices = [before.price; 65];
-    let mut column_prices = [before.price; 65];
+    let mut working = [before.working; CELLS];
+    let mut marks = [before.mark; CELLS];
+    let mut columns = [before.column; LINES];
+    let mut row_prices = [before.price; LINES];
+    let mut column_prices = [before.price; LINES];
     let answer = solve_by(
         by_steps,
         call.n,

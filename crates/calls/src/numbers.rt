@@ -29,9 +29,9 @@ pub const COLUMN_PRICES: usize = 17_030;
 pub const ANSWER: usize = 17_095;
 
 // All of them.
-const ALL: usize = 17_160;
+pub const ALL: usize = 17_160;
 
-pub type Numbers = [i64; 17160];
+pub type Numbers = [i64; ALL];
 
 // Says number i behind `start`; nothing outside the rooms.
 pub fn put(said: &mut Numbers, start: usize, i: usize, number: i64)
@@ -85,11 +85,11 @@ fn byte_of(number: i64) -> u8
     number as u8
 }
 
-pub(crate) fn costs_of(said: &Numbers, count: usize) -> [i32; 4225]
+pub(crate) fn costs_of(said: &Numbers, count: usize) -> [i32; CELLS]
     requires { ⌜ count ≤ 4225 ⌝ }
     ensures { λ r. ⌜ ((i : ℕ) → i < count → getD r i (pos 0) ≡ cost-of (getD (now (said .entry)) i (pos 0))) ⌝ }
 {
-    let mut costs = [0i32; 4225];
+    let mut costs = [0i32; CELLS];
     let mut i = 0;
     while i < count {
         costs[i] = cost_of(said[i]);
@@ -98,11 +98,11 @@ pub(crate) fn costs_of(said: &Numbers, count: usize) -> [i32; 4225]
     costs
 }
 
-pub(crate) fn mask_of(said: &Numbers, count: usize) -> [u8; 4225]
+pub(crate) fn mask_of(said: &Numbers, count: usize) -> [u8; CELLS]
     requires { ⌜ count ≤ 4225 ⌝ }
     ensures { λ r. ⌜ ((i : ℕ) → i < count → getD r i 0 ≡ byte-of (getD (now (said .entry)) (4225 + i) (pos 0))) ⌝ }
 {
-    let mut mask = [0u8; 4225];
+    let mut mask = [0u8; CELLS];
     let mut i = 0;
     while i < count {
         mask[i] = byte_of(said[MASK + i]);

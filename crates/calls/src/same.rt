@@ -35,7 +35,7 @@ fn wide_count(count: u32) -> i64
     count as i64
 }
 
-pub fn are_costs(said: &Numbers, start: usize, costs: &[i32; 4225], count: usize) -> bool
+pub fn are_costs(said: &Numbers, start: usize, costs: &[i32; CELLS], count: usize) -> bool
     ensures { λ r. ⌜ (r ≡ true → Says (now (said .entry)) start count (λ i. getD (now (costs .entry)) i (pos 0))) ⌝ }
 {
     if CELLS < count {
@@ -51,7 +51,7 @@ pub fn are_costs(said: &Numbers, start: usize, costs: &[i32; 4225], count: usize
     true
 }
 
-pub fn are_bytes(said: &Numbers, start: usize, bytes: &[u8; 4225], count: usize) -> bool
+pub fn are_bytes(said: &Numbers, start: usize, bytes: &[u8; CELLS], count: usize) -> bool
     ensures { λ r. ⌜ (r ≡ true → Says (now (said .entry)) start count (λ i. pos (getD (now (bytes .entry)) i 0))) ⌝ }
 {
     if CELLS < count {
@@ -67,7 +67,7 @@ pub fn are_bytes(said: &Numbers, start: usize, bytes: &[u8; 4225], count: usize)
     true
 }
 
-pub(crate) fn are_values(said: &Numbers, start: usize, values: &[i64; 4225], count: usize) -> bool
+pub(crate) fn are_values(said: &Numbers, start: usize, values: &[i64; CELLS], count: usize) -> bool
     ensures { λ r. ⌜ (r ≡ true → Says (now (said .entry)) start count (λ i. getD (now (values .entry)) i (pos 0))) ⌝ }
 {
     if CELLS < count {
@@ -83,7 +83,12 @@ pub(crate) fn are_values(said: &Numbers, start: usize, values: &[i64; 4225], cou
     true
 }
 
-pub(crate) fn are_columns(said: &Numbers, start: usize, columns: &[u16; 65], count: usize) -> bool
+pub(crate) fn are_columns(
+    said: &Numbers,
+    start: usize,
+    columns: &[u16; LINES],
+    count: usize,
+) -> bool
     ensures { λ r. ⌜ (r ≡ true → Says (now (said .entry)) start count (λ i. pos (getD (now (columns .entry)) i 0))) ⌝ }
 {
     if LINES < count {
@@ -99,7 +104,7 @@ pub(crate) fn are_columns(said: &Numbers, start: usize, columns: &[u16; 65], cou
     true
 }
 
-pub(crate) fn are_prices(said: &Numbers, start: usize, prices: &[i64; 65], count: usize) -> bool
+pub(crate) fn are_prices(said: &Numbers, start: usize, prices: &[i64; LINES], count: usize) -> bool
     ensures { λ r. ⌜ (r ≡ true → Says (now (said .entry)) start count (λ i. getD (now (prices .entry)) i (pos 0))) ⌝ }
 {
     if LINES < count {

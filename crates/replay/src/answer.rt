@@ -1,7 +1,8 @@
 // A record of the file `answers`, as a call: its matrix is lent again to both solvers, and what the crate gave back must come out.
 ghost use Prim.Native.Nat.{_≤_};
 use crate::number;
-use crate::numbers::read;
+use crate::number::read;
+use calls::ALL;
 use calls::ANSWER;
 use calls::Before;
 use calls::COLUMN_PRICES;
@@ -15,7 +16,7 @@ use calls::Numbers;
 use calls::ROW_PRICES;
 use calls::WORKING;
 
-// What the buffers hold before the call, and still hold where nothing is stored.
+// What the buffers hold before the call, and hold still where nothing is stored.
 const JUNK_MARK: u8 = 85;
 
 const JUNK_COLUMN: u16 = 21_845;
@@ -25,14 +26,13 @@ const JUNK_VALUE: i64 = 6_148_914_691_236_517_205;
 // Where the mask begins, behind sizes, budget, counts, total and block.
 const MASK_AT: usize = 44;
 
-fn wide(byte: u8) -> i64 {
-    byte as i64
-}
-
 // The bit of a column in its row's bytes, which begin at `at`.
 fn bit(record: &[u8], at: usize, column: usize) -> i64 {
     let eight = number::byte(record, number::onward(at, column / 8));
-    wide((eight >> (column % 8)) & 1)
+    if (eight >> (column % 8)) & 1 == 0 {
+        return 0;
+    }
+    1
 }
 
 // Reads the mask of n rows, and answers where the costs begin.
@@ -110,7 +110,7 @@ pub(crate) fn is_same(record: &[u8]) -> bool {
         return false;
     }
     let cells = cells_of(n);
-    let mut said = [0i64; 17160];
+    let mut said = [0i64; ALL];
     if read_call(record, n, cells, &mut said) != record.len() {
         return false;
     }

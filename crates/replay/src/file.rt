@@ -1,6 +1,7 @@
 // A record of the file `files`: its case file is read again, and every answer is held against what the record says.
 use crate::number;
-use crate::numbers::read;
+use crate::number::read;
+use calls::ALL;
 use calls::CELLS;
 use calls::COSTS;
 use calls::MASK;
@@ -11,10 +12,8 @@ use storm_case::Hut;
 // Where the file begins, behind the numbers.
 const FILE: usize = 20;
 
-// What the room holds before, and still holds where nothing is stored.
+// What the room holds before, and holds still where nothing is stored.
 const JUNK_COST: i32 = -1_431_655_766;
-
-const UNTOUCHED: i64 = -1_431_655_766;
 
 const JUNK_BYTE: u8 = 85;
 
@@ -62,10 +61,10 @@ fn after_cells(
     record: &[u8],
     start: usize,
     cells: usize,
-    costs: &[i32; 4225],
-    mask: &[u8; 4225],
+    costs: &[i32; CELLS],
+    mask: &[u8; CELLS],
 ) -> usize {
-    let mut said = [UNTOUCHED; 17160];
+    let mut said = [JUNK_COST as i64; ALL];
     read(record, start, 0, JUNK_BYTE as i64, &mut said, MASK, CELLS);
     let mask_at = read(record, start, 4, 0, &mut said, COSTS, cells);
     let end = read(record, mask_at, 1, 0, &mut said, MASK, cells);
@@ -85,8 +84,8 @@ fn after_case(record: &[u8], start: usize, file: &[u8]) -> usize {
     if CELLS < mask_room {
         return number::BEHIND;
     }
-    let mut costs = [JUNK_COST; 4225];
-    let mut mask = [JUNK_BYTE; 4225];
+    let mut costs = [JUNK_COST; CELLS];
+    let mut mask = [JUNK_BYTE; CELLS];
     let case = storm_case::read_case(file, &mut costs[..room], &mut mask[..mask_room]);
     if !is_case(record, case) {
         return number::BEHIND;

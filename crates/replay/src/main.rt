@@ -3,7 +3,6 @@
 mod answer;
 mod file;
 mod number;
-mod numbers;
 
 use libc::STDOUT_FILENO;
 

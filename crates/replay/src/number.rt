@@ -1,4 +1,5 @@
 // The numbers of a record, read from its bytes: little-endian, the signed ones in two's complement. A byte outside the record is read as 0.
+use calls::Numbers;
 
 // A position behind every record.
 pub(crate) const BEHIND: usize = 65_536;
@@ -79,10 +80,33 @@ fn wide(x: u32) -> u64 {
     x as u64 | 0xffff_ffff_0000_0000
 }
 
-// A value of 1, 2, 4 or 8 bytes.
-pub(crate) fn value(record: &[u8], at: usize, width: usize) -> i64 {
+// A number of 1, 2, 4 or 8 bytes; where it has none, `unstored`.
+fn value(record: &[u8], at: usize, width: usize, unstored: i64) -> i64 {
+    if width == 0 {
+        return unstored;
+    }
     if width == 8 {
         return signed_64(eight(record, at));
     }
     signed_64(wide(extended(record, at, width)))
+}
+
+// Reads so many numbers of this width into a call's, and answers where they end.
+pub(crate) fn read(
+    record: &[u8],
+    from: usize,
+    width: usize,
+    unstored: i64,
+    said: &mut Numbers,
+    start: usize,
+    count: usize,
+) -> usize {
+    let mut at = from;
+    let mut i = 0;
+    while i < count {
+        calls::put(said, start, i, value(record, at, width, unstored));
+        at = onward(at, width);
+        i += 1;
+    }
+    at
 }

@@ -6,6 +6,7 @@ use crate::numbers::count_to;
 use crate::numbers::signed;
 use crate::words::BEHIND;
 use crate::words::after_word;
+use calls::ALL;
 use calls::ANSWER;
 use calls::Before;
 use calls::CELLS;
@@ -64,6 +65,7 @@ const STARTS: [usize; 15] = [
     COLUMN_PRICES,
 ];
 
+// Row k of each table.
 fn name(k: usize) -> [u8; 16]
     requires { ⌜ k < 15 ⌝ }
 {
@@ -211,7 +213,7 @@ pub(crate) fn call(text: &[u8], from: usize) -> Tried {
     let n = count_to(text, after_word(text, lent.at, b"n"), LARGEST);
     let budget = count_to(text, after_word(text, n.at, b"budget"), LARGEST_BUDGET);
     let lengths = lent.lengths;
-    let mut said = [0i64; 17160];
+    let mut said = [0i64; ALL];
     let at = read_lists(text, budget.at, lengths, &mut said);
     let before = Before {
         working: 77,

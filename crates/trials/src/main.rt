@@ -31,29 +31,26 @@ fn print_line(what: &[u8], text: &[u8], from: usize) {
     io::write_all(STDOUT_FILENO, b"\n");
 }
 
-// A later call: passed only where the earlier one was too.
-fn both(earlier: Tried, later: Tried) -> Tried {
-    Tried {
-        at: later.at,
-        passed: earlier.passed & later.passed,
-    }
-}
-
-// All calls of a trial.
-fn calls(text: &[u8], from: usize) -> Tried {
+// All calls of a trial: passed where each is.
+fn try_calls(text: &[u8], from: usize) -> Tried {
     let mut tried = call(text, from);
+    let mut passed = tried.passed;
     let mut next = after_word(text, tried.at, b"and");
     let mut turns = BEHIND;
     while turns > 0 && next != BEHIND {
-        tried = both(tried, call(text, next));
+        tried = call(text, next);
+        passed = passed & tried.passed;
         next = after_word(text, tried.at, b"and");
         turns -= 1;
     }
-    tried
+    Tried {
+        at: tried.at,
+        passed,
+    }
 }
 
 fn try_one(text: &[u8], name: usize, tally: Tally) -> Tally {
-    let tried = calls(text, line_end(text, name));
+    let tried = try_calls(text, line_end(text, name));
     if tried.at == BEHIND {
         print_line(b"MISREAD", text, name);
         return tally::stopped(tally);
@@ -114,7 +111,7 @@ fn main() {
     let length = io::read_full(fd, &mut text);
     libc::close(fd);
     if BEHIND <= length {
-        print_line(b"MISREAD: too long", b"", 0);
+        io::write_all(STDOUT_FILENO, b"MISREAD: too long\n");
         return;
     }
     tally::end(try_all(&text[..length]));

@@ -1,4 +1,4 @@
---
+-- `replay_all` ends: its measure is the number of turns that are left. Nothing has to hold from turn to turn.
 use borrow.Author.Needs.{needs}
 use Rattle.replay.proofs.replay_all.Statement.{statement}
 use Rattle.replay.proofs.replay_all.Tie as tie

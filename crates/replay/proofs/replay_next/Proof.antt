@@ -1,4 +1,4 @@
---
+-- `replay_next` lends as many bytes as the record has, which are there.
 use mathlib.Core.Path.{sym}
 use lib.Seq.{length-take-le}
 use borrow.Author.Needs.{needs}

@@ -1,4 +1,4 @@
---
+-- `read_mask` ends: its measure is the number of cells that are left. Nothing has to hold from turn to turn.
 use Prim.Native.Nat.{_-_}
 use borrow.Author.Needs.{needs}
 use Rattle.replay.proofs.answer.read_mask.Statement.{statement}

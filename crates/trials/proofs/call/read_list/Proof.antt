@@ -1,4 +1,4 @@
---
+-- `read_list` ends: its measure is the number of numbers that are left. Nothing has to hold from turn to turn.
 use Prim.Native.Nat.{_-_}
 use borrow.Author.Needs.{needs}
 use Rattle.trials.proofs.call.read_list.Statement.{statement}

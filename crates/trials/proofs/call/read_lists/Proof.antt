@@ -1,4 +1,4 @@
---
+-- `read_lists` ends: its measure is the number of lists that are left. Nothing has to hold from turn to turn.
 use Prim.Native.Nat.{_-_}
 use borrow.Author.Needs.{needs}
 use Rattle.trials.proofs.call.read_lists.Statement.{statement}

@@ -1,13 +1,13 @@
--- `calls` ends: its measure is the number of turns that are left. Nothing has to hold from turn to turn.
+-- `try_calls` ends: its measure is the number of turns that are left. Nothing has to hold from turn to turn.
 use borrow.Author.Needs.{needs}
-use Rattle.trials.proofs.calls.Statement.{statement}
-use Rattle.trials.proofs.calls.Tie as tie
+use Rattle.trials.proofs.try_calls.Statement.{statement}
+use Rattle.trials.proofs.try_calls.Tie as tie
 
 abbrev Inv-loop : tie.InvT-loop
-Inv-loop text from tried₀ next₀ turns₀ t7 tried next turns = Unit {0}
+Inv-loop text from tried₀ passed₀ next₀ turns₀ t8 tried passed next turns = Unit {0}
 
 abbrev μ-loop : tie.MeasureT-loop
-μ-loop text from tried₀ next₀ turns₀ t7 tried next turns = turns
+μ-loop text from tried₀ passed₀ next₀ turns₀ t8 tried passed next turns = turns
 
 call-requires : tie.Need-call-requires Inv-loop μ-loop
 call-requires c κs = search needs
@@ -23,9 +23,6 @@ loop-holds c = search needs
 
 call-requires-2 : tie.Need-call-requires-2 Inv-loop μ-loop
 call-requires-2 c κs = search needs
-
-both-requires : tie.Need-both-requires Inv-loop μ-loop
-both-requires c κs = search needs
 
 slice-aggregate-after-word-2 : tie.Need-slice-aggregate-after-word-2 Inv-loop μ-loop
 slice-aggregate-after-word-2 c = search needs
@@ -48,8 +45,8 @@ returns c = search needs
 returns-2 : tie.Need-returns-2 Inv-loop μ-loop
 returns-2 c = search needs
 
-pub calls-spec : {M : Type 1} → statement M
-calls-spec =
+pub try-calls-spec : {M : Type 1} → statement M
+try-calls-spec =
     tie.close
     (tie.spec
     Inv-loop
@@ -59,7 +56,6 @@ calls-spec =
     after-word-requires
     loop-holds
     call-requires-2
-    both-requires
     slice-aggregate-after-word-2
     after-word-requires-2
     sub-turns

@@ -1,8 +1,8 @@
 --
 use Prim.Native.Nat.{_-_}
 use borrow.Author.Needs.{needs}
-use Rattle.replay.proofs.numbers.read.Statement.{statement}
-use Rattle.replay.proofs.numbers.read.Tie as tie
+use Rattle.replay.proofs.number.read.Statement.{statement}
+use Rattle.replay.proofs.number.read.Tie as tie
 
 abbrev Inv-loop : tie.InvT-loop
 Inv-loop «record» from width unstored said₀ start count at₀ i₀ said at i = Unit {0}
@@ -13,8 +13,8 @@ abbrev μ-loop : tie.MeasureT-loop
 loop-holds : tie.Need-loop-holds Inv-loop μ-loop
 loop-holds c = search needs
 
-stored-requires : tie.Need-stored-requires Inv-loop μ-loop
-stored-requires c κs = search needs
+value-requires : tie.Need-value-requires Inv-loop μ-loop
+value-requires c κs = search needs
 
 put-requires : tie.Need-put-requires Inv-loop μ-loop
 put-requires c κs = search needs
@@ -41,7 +41,7 @@ read-spec =
     Inv-loop
     μ-loop
     loop-holds
-    stored-requires
+    value-requires
     put-requires
     onward-requires
     add-i
