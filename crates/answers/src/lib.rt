@@ -1,4 +1,6 @@
 // What a call gives back, in both solvers: the answer record, and the chosen columns. Only the solvers call it, so it may have a `requires`.
+#![tactic(auto)]
+
 ghost use Rattle.std.specs.Prelude.{◌≡◌, ◌+◌, ◌*◌, ◌<◌, pos};
 ghost use Rattle.std.proofs.Math.Option.{some, map};
 ghost use Rattle.lines.specs.Square.{table};

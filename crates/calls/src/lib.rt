@@ -1,5 +1,7 @@
 // A stored call: what is lent to a solver, and what must come out. Both solvers make it, each in buffers of its own, and are held to what is said.
 // The programs that read stored calls stand on this, and they alone: they see to it that no list is longer than its room.
+#![tactic(auto)]
+
 mod numbers;
 mod same;
 

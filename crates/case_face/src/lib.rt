@@ -1,4 +1,6 @@
 // What the C face answers of a case file beside the reader's own answers: the hut of a row as a number, a record's body as a part of the file, and the huts beside a pairing.
+#![tactic(auto)]
+
 ghost use Rattle.std.specs.Prelude.{◌≡◌};
 ghost use Rattle.storm_case.specs.Case.{hut};
 ghost use Rattle.records.specs.Records.{found};

@@ -1,5 +1,7 @@
 // The cells that an accepted file says: a pair is allowed if the areas are equal and the clocks at most the window apart; the difference is its cost.
 // Only storm_case calls `fill`, so it may have a `requires`.
+#![tactic(auto)]
+
 ghost use Rattle.std.specs.Prelude.{◌≡◌, true, cond, not, ◌&&◌, ◌+◌, ◌-◌, ◌*◌, ◌≤◌, ◌<◌, eqb, ltb, pos};
 ghost use Rattle.lines.specs.Square.{square, each_row};
 ghost use Rattle.cells.specs.Cells.{pair_cost, mask_byte};

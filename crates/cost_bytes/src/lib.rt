@@ -1,4 +1,6 @@
 // Costs as bytes, four little_endian bytes each: how many there are to read, and what they are.
+#![tactic(auto)]
+
 ghost use Rattle.std.specs.Prelude.{◌≡◌, ◌*◌, ◌≤◌, length, take};
 ghost use Rattle.lines.specs.Square.{table};
 ghost use Rattle.cost_bytes.specs.Bytes.{little_endian, twos_complement, cost_of, readable};

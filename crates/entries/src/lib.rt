@@ -1,4 +1,6 @@
 // The single lines of the price list and of the block, and the words in them, put into a lent buffer.
+#![tactic(auto)]
+
 mod row;
 mod words;
 

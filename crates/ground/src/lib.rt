@@ -1,4 +1,6 @@
 // What both solvers stand on: sets of lines, the run, the first prices and what changes them, and the first mark of a row.
+#![tactic(auto)]
+
 pub mod marks;
 pub mod prices;
 pub mod run;

@@ -1,4 +1,6 @@
 // Standard input, read into a lent buffer. A read that fails is told apart from the end of the input, as `io::read_full` does not.
+#![tactic(auto)]
+
 ghost use Rattle.input.specs.Within.{Within};
 
 use libc::STDIN_FILENO;

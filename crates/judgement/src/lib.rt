@@ -1,4 +1,6 @@
 // The judgement of a case file, record after record. Only the crates of the case reader call what is here, so a function may have a `requires`.
+#![tactic(auto)]
+
 ghost use Rattle.std.specs.Prelude.{◌≡◌, length};
 ghost use Rattle.judgement.specs.Scan.{judged};
 ghost use Rattle.judgement.specs.View.{Agrees};

@@ -82,7 +82,7 @@ module _ {A : Type 0} where
   pub table_ext : (f g : ℕ → A) (n : ℕ) → ((i : ℕ) → i < n → f i ≡ g i) → table f n ≡ table g n
   unfolding table
   table_ext f g zero e = refl
-  table_ext f g (suc n) e = ap (λ x. x ∷ table (λ i. f (suc i)) n) (e 0 (omega arith)) ∙ ap (λ l. g 0 ∷ l) (table_ext _ _ n (λ i h. e (suc i) (omega arith)))
+  table_ext f g (suc n) e = ap (λ x. x ∷ table (λ i. f (suc i)) n) (e 0 (omega arith)) ∙ ap (λ l. g 0 ∷ l) (table_ext (λ i. f (suc i)) (λ i. g (suc i)) n (λ i h. e (suc i) (omega arith)))
 
   -- the same everywhere, also past the end
   pub table_all : (d : A) (n i : ℕ) → get_or (table (λ k. d) n) i d ≡ d

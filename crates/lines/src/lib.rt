@@ -1,4 +1,6 @@
 // Sets of lines as 64-bit words; and in specs/ and proofs/, facts about a line of cells, each once over its length.
+#![tactic(auto)]
+
 ghost use Rattle.std.specs.Prelude.{◌≡◌, ◌<◌};
 ghost use Rattle.lines.specs.Sets.{has as sets_has};
 

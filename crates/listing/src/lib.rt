@@ -1,4 +1,6 @@
 // The pairing of a price list as text in a lent buffer, and the sums of prices in it.
+#![tactic(auto)]
+
 mod list;
 mod numbers;
 

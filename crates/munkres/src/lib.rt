@@ -1,4 +1,6 @@
 // The solver: what is lent is judged, the steps are made, and their end is given back.
+#![tactic(auto)]
+
 ghost use Rattle.std.specs.Prelude.{◌≡◌};
 ghost use Rattle.steps.specs.Lent.{task, buffers};
 ghost use Rattle.steps.specs.Refusal.{accepted, verdict};

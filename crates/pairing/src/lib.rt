@@ -1,4 +1,6 @@
 // A case read and solved: which fragment goes with which event. Of the solver only its promise is known here.
+#![tactic(auto)]
+
 ghost use Rattle.std.specs.Prelude.{◌≡◌, true, ◌&&◌, ◌*◌, ◌≤◌, take};
 ghost use Rattle.steps.specs.Lent.{buffers};
 ghost use Rattle.steps.specs.Refusal.{has_room};

@@ -1,6 +1,8 @@
 // Reads a case file from standard input and prints why its pairing is right: the price list, or the block that leaves no pairing.
 // With the word `short` the list has the pairs, prices and sums alone. Any other word is refused on standard error, and nothing is printed.
 // Where reading or writing fails it says so on standard error, and nothing else.
+#![tactic(auto)]
+
 mod print;
 mod report;
 mod word;

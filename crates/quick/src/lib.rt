@@ -1,4 +1,6 @@
 // The quick solver: document 01's steps on keys, O(n) for a prime, with the answers and the buffers of the plain one.
+#![tactic(auto)]
+
 ghost use Rattle.std.specs.Prelude.{◌≡◌};
 ghost use Rattle.steps.specs.Lent.{task, buffers, allows, cost_at};
 ghost use Rattle.steps.specs.Refusal.{accepted, verdict};

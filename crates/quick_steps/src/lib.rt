@@ -1,4 +1,6 @@
 // Document 01's steps on keys and lines, one function for each. Only quick calls them, so they may have a `requires`.
+#![tactic(auto)]
+
 ghost use Rattle.std.specs.Prelude.{◌≡◌, ◌≤◌, pos, length};
 ghost use Rattle.lines.specs.Square.{table};
 ghost use Rattle.steps.specs.Steps.{augmenting};

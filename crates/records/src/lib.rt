@@ -1,4 +1,6 @@
 // Records of a case file: what stands at an offset, and the body there as a part of the file.
+#![tactic(auto)]
+
 ghost use Rattle.std.specs.Prelude.{◌≡◌};
 ghost use Rattle.records.specs.Records.{body_length, body as records_body, Finds};
 

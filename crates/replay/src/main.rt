@@ -1,5 +1,7 @@
 // Replays stored answers: of the published crate munkres, on the solvers (the file `answers`), and of the rules of the case file, on the case
 // reader (`files`). rust/oracle/README.md and rust/cases/README.md have the formats; a record has its length before it in both.
+#![tactic(auto)]
+
 mod answer;
 mod file;
 mod number;

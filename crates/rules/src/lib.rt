@@ -1,4 +1,6 @@
 // The judgement of what is lent: rules 1 to 5 in their order, then the test of the rows; for any largest n, and whatever is lent beside costs and mask.
+#![tactic(auto)]
+
 ghost use Rattle.std.specs.Prelude.{◌≡◌, not, ◌&&◌, ◌||◌, ◌*◌, ◌<◌, ◌≤◌, eqb, ltb, length};
 ghost use Rattle.lines.specs.First.{first, any};
 ghost use Rattle.steps.specs.Refusal.{out_of_range, bad_mask, bad_cost, dead_row, has_room, judgement};

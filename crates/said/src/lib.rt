@@ -1,4 +1,6 @@
 // What the records of an accepted file say of each line, put into lent room, all lines in one judgement of the file.
+#![tactic(auto)]
+
 ghost use Rattle.std.specs.Prelude.{◌≡◌, cond, ◌+◌, ltb, get_or};
 ghost use Rattle.lines.specs.Square.{each};
 ghost use Rattle.judgement.specs.Numbers.{u16_at, u32_at};

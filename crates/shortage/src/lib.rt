@@ -1,4 +1,6 @@
 // Why there is no pairing, as text in a lent buffer.
+#![tactic(auto)]
+
 mod block;
 mod numbers;
 

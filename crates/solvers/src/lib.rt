@@ -1,4 +1,6 @@
 // Either solver, as the caller says: the quick one, or the port that goes by document 01's steps. Both keep one promise, so nothing but the time tells them apart.
+#![tactic(auto)]
+
 ghost use Rattle.steps.specs.Lent.{task, buffers};
 ghost use Rattle.steps.specs.Promise.{Promise};
 

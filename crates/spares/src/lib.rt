@@ -1,5 +1,7 @@
 // Why no pairing costs less, as text in a lent buffer: the prices' sum as a bound, and every allowed pair with what it has to spare.
 // Only price_list calls it, so that it may have a `requires`.
+#![tactic(auto)]
+
 ghost use Rattle.std.specs.Prelude.{◌≡◌, ◌*◌, ◌≤◌, ◌<◌};
 ghost use Rattle.text.specs.Text.{put};
 ghost use Rattle.entries.specs.Places.{InList};

@@ -1,11 +1,12 @@
 -- Every list of a machine keeps its length.
 use mathlib.Core.Path.{◌≡◌, refl, ◌∙◌}
-use mathlib.Core.Bool.{Bool}
+use mathlib.Core.Bool.{Bool, cond}
 use mathlib.Core.List.{List, [], ◌∷◌}
 use Prim.Native.Nat.{ℕ, zero, suc, ◌+◌, ◌*◌}
-use lib.Dec.{ltb}
+use lib.Dec.{eqb, ltb}
 use lib.IntN.{ℤ}
 use lib.ListN.{length, set, length-set}
+use Rattle.lines.specs.Square.{cell}
 use Rattle.lines.proofs.Tests.{cond_ind}
 use Rattle.lines.proofs.Squares.{length_table, length_square, length_each}
 use Rattle.steps.specs.Going.{Shape}
@@ -16,7 +17,7 @@ module _ (n : ℕ) where
   pub length_flip : (marks : List ℕ) (ps : List (ℕ × ℕ)) → length (flip n marks ps) ≡ length marks
   unfolding flip
   length_flip marks [] = refl
-  length_flip marks (p ∷ ps) = length_flip _ ps ∙ length-set marks _ _
+  length_flip marks (p ∷ ps) = length_flip (set marks (p.0 * n + p.1) (cond (eqb (cell 0 n marks p.0 p.1) 1) 0 1)) ps ∙ length-set marks _ _
 
   pub length_step5 : (i j : ℕ) (r : Run) (marks : List ℕ) → length (step5 n i j r marks).1 ≡ length marks
   unfolding step5 augmenting clear_primes

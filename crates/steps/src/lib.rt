@@ -1,4 +1,6 @@
 // The answer record of document 01; in specs/ its steps as definitions that compute, in proofs/ their theorems.
+#![tactic(auto)]
+
 #[repr(C)]
 #[derive(Drop)]
 pub struct Answer {

@@ -1,4 +1,6 @@
 // The case reader: the costs and mask that a case file says, the hut of a row, and what it says of each line.
+#![tactic(auto)]
+
 ghost use Rattle.std.specs.Prelude.{◌≡◌};
 ghost use Rattle.storm_case.specs.Case.{case, has_cells, read, hut as case_hut};
 

@@ -1,4 +1,6 @@
 // Text put into a lent buffer, piece after piece. What does not fit is left out; how much is used afterwards is given back.
+#![tactic(auto)]
+
 ghost use Rattle.std.specs.Prelude.{◌≡◌, ◌-◌, ◌≤◌, min, length, nat_abs};
 ghost use Rattle.text.specs.Text.{put as text_put};
 ghost use Rattle.text.specs.Numbers.{decimal, signed, blanks, right, refusal};

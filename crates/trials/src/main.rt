@@ -1,5 +1,7 @@
 // The compiled solvers, tried. The file `trials` says on what, and what must come out; its head has the format. A line for each group; a trial
 // that failed prints its name, and so does one that is not written as it must be, which ends the run.
+#![tactic(auto)]
+
 mod call;
 mod numbers;
 mod tally;

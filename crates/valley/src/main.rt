@@ -1,5 +1,7 @@
 // Reads a case file from standard input, pairs its fragments with its events, and prints which hut goes with which column, and the total.
 // Where reading or writing fails it says so on standard error, and nothing else.
+#![tactic(auto)]
+
 mod print;
 mod report;
 

@@ -1,0 +1,5 @@
+use Rattle.lines.proofs.Bits.{has_shr}
+use Rattle.lines.proofs.has.Goals as goal
+
+pub returns : goal.returns
+returns c = has_shr c.args.set c.args.line
