@@ -1,0 +1,12 @@
+-- `find_bad_cost` meets its contract: each cell that the loop passed is forbidden, or its cost is in range.
+use Prim.Native.Nat.{◌-◌, ◌≤◌}
+use lib.ListN.{length}
+use Rattle.lines.proofs.Loops.{Missed}
+use Rattle.steps.specs.Refusal.{bad_cost}
+use Rattle.rules.proofs.find_bad_cost.Given as goal
+
+abbrev pub invariant-loop-place : goal.invariant-loop-place
+invariant-loop-place l = (l.place ≤ length l.mask) × Missed (bad_cost l.costs l.mask) l.place
+
+abbrev pub decreases-loop-place : goal.decreases-loop-place
+decreases-loop-place l = length l.mask - l.place

@@ -1,0 +1,13 @@
+-- `has_bad_cost` meets its contract: after each turn `bad` says whether a cell before was.
+use mathlib.Core.Path.{◌≡◌}
+use Prim.Native.Nat.{◌-◌, ◌≤◌}
+use lib.ListN.{length}
+use Rattle.lines.specs.First.{any}
+use Rattle.steps.specs.Refusal.{bad_cost}
+use Rattle.rules.proofs.has_bad_cost.Given as goal
+
+abbrev pub invariant-loop-place : goal.invariant-loop-place
+invariant-loop-place l = (l.place ≤ length l.mask) × (l.bad ≡ any (bad_cost l.costs l.mask) l.place)
+
+abbrev pub decreases-loop-place : goal.decreases-loop-place
+decreases-loop-place l = length l.mask - l.place
