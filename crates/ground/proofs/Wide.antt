@@ -19,7 +19,7 @@ use Rattle.steps.specs.Steps.{is_zero}
 use Rattle.ground.specs.Square.{Fit64}
 
 pub back64 : (z : ℤ) → mag z < 2 ^ 63 → to_z w64 (of_z w64 z) ≡ z
-back64 z h = to_z-of_z (record { sfits = h })
+back64 z h = to_z-of_z {w = w64} (record { sfits = h })
 
 pub back : (z y : ℤ) → z ≡ y → SFits w64 y → to_z w64 (of_z w64 z) ≡ y
 back z y e h = rw e (to_z-of_z h)

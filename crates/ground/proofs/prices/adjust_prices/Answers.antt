@@ -6,7 +6,6 @@ use lib.IntN.{pos, neg_ℤ, ◌-ℤ◌, +ℤ_idl}
 use mir.Syntax.{w64}
 use mir.Val.{to_z, of_z}
 use mir.Facts.{to_z-of_z}
-use borrow.Author.Rules.{rules}
 use Rattle.lines.proofs.Walks.{alike_lt}
 use Rattle.ground.proofs.Wide.{back}
 use Rattle.ground.proofs.Adjusting.{lowered_shifted, raised_shifted}

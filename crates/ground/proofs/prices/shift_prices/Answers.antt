@@ -1,20 +1,22 @@
 -- `prices::shift_prices` meets its contract: the lines of the set that were met so far are done, and the others stay (`Passed`).
-use mathlib.Core.Path.{◌∙◌}
-use mathlib.Core.Bool.{cond}
+use mathlib.Core.Path.{◌≡◌, ◌∙◌}
+use mathlib.Core.Bool.{true}
 use mathlib.Core.List.{List}
-use Prim.Native.Nat.{ℕ}
+use Prim.Native.Nat.{ℕ, ◌<◌}
 use native.Mathlib.Omega.{arith}
 use lib.IntN.{ℤ, pos, ◌+ℤ◌}
 use lib.ListN.{length, get_or}
 use mir.Syntax.{w64}
 use mir.Val.{to_z, of_z}
 use mir.Facts.{to_z-of_z}
+use mir.Val.{SFits}
 use borrow.Author.Rules.{rules}
 use Rattle.lines.specs.Sets.{has}
 use Rattle.lines.proofs.Loops.{Passed, passed_none, passed_store, passed_keep, passed_all}
-use Rattle.lines.proofs.Walks.{Walk, Passes, Met, walk_begin, walk_meets, walk_end}
+use Rattle.lines.proofs.Walks.{Passes, walk_begin, walk_meets, walk_end}
+use Rattle.ground.specs.Square.{Fit64}
 use Rattle.ground.specs.Prices.{shifted}
-use Rattle.ground.proofs.Wide.{back64, each_fits}
+use Rattle.ground.proofs.Wide.{each_fits}
 use Rattle.ground.proofs.prices.shift_prices.Invariants.{moved}
 use Rattle.ground.proofs.prices.shift_prices.Goals as goal
 
@@ -27,43 +29,52 @@ loop-left-init c = walk_begin c.requires.within (passed_none (pos 0) _ _) (misse
 
 -- ---- a turn: the place of the loop that it is in, and the line that it meets
 
--- TODO a place
-met : (c : goal.After-lowest_line-line) → let a = (turn c).args in
-    let l = (turn c).loop-left in
-    Met 64 (length a.prices-1.now) a.lines (Passed (pos 0) (moved a.lines (to_z w64 (of_z w64 a.change))) a.prices-1.now l.prices-1) l.left c.lowest_line-line.result
-met c = let l = turn c in walk_meets 64 l.requires.most c.loop-left-test.true c.lowest_line-line.ensures l.loop-left.invariant
-
 pub offset_bounds-prices-line : goal.offset_bounds-prices-line
-offset_bounds-prices-line c = omega (arith, (met c).below, c.requires.most)
+offset_bounds-prices-line c =
+    let m = walk_meets 64 c.requires.most c.loop-left-test.true c.lowest_line-line.ensures c.loop-left.invariant in
+    omega (arith, m.below, c.requires.most)
 
 pub slice_copy_out-prices : goal.slice_copy_out-prices
-slice_copy_out-prices c = let m = met c in omega (arith, m.below, m.kept.long)
+slice_copy_out-prices c =
+    let m = walk_meets 64 c.requires.most c.loop-left-test.true c.lowest_line-line.ensures c.loop-left.invariant in
+    omega (arith, m.below, m.kept.long)
+
+-- the changed price of the line fits
+sum_fits : (lines line : ℕ) (change : ℤ) (prices₀ prices : List ℤ) → Fit64 (shifted change lines prices₀) → line < length prices₀ → has lines line ≡ true
+    → SFits w64 (get_or prices line (pos 0)) → SFits w64 change → get_or prices line (pos 0) ≡ get_or prices₀ line (pos 0)
+    → SFits w64 (to_z w64 (of_z w64 (get_or prices line (pos 0))) +ℤ to_z w64 (of_z w64 change))
+unfolding shifted
+sum_fits lines line change prices₀ prices values below member f g left = rw (to_z-of_z f, left, to_z-of_z g) (rw member at (each_fits _ prices₀ values _ below))
 
 pub overflow_add-prices : goal.overflow_add-prices
-unfolding shifted
 overflow_add-prices c =
-    let m = met c in
-    let line = c.lowest_line-line.result in
-    rw (back64 (get_or c.loop-left.prices-1 line (pos 0)) c.prices-1.given, m.kept.left line (omega arith), to_z-of_z c.ranges.change)
-    (rw m.member at (each_fits _ c.args.prices-1.now c.requires.values _ m.below))
+    let m = walk_meets 64 c.requires.most c.loop-left-test.true c.lowest_line-line.ensures c.loop-left.invariant in
+    sum_fits _ _ _ _ _ c.requires.values m.below m.member (search rules) c.ranges.change (m.kept.left _ (omega arith))
 
 pub offset_bounds-prices-line-in-loop-left : goal.offset_bounds-prices-line-in-loop-left
-offset_bounds-prices-line-in-loop-left c = omega (arith, (met c).below, c.requires.most)
+offset_bounds-prices-line-in-loop-left c =
+    let m = walk_meets 64 c.requires.most c.loop-left-test.true c.lowest_line-line.ensures c.loop-left.invariant in
+    omega (arith, m.below, c.requires.most)
 
 pub bounds-prices-line : goal.bounds-prices-line
-bounds-prices-line c = let m = met c in omega (arith, m.below, m.kept.long)
+bounds-prices-line c =
+    let m = walk_meets 64 c.requires.most c.loop-left-test.true c.lowest_line-line.ensures c.loop-left.invariant in
+    omega (arith, m.below, m.kept.long)
 
 pub loop-left-smaller : goal.loop-left-smaller
-loop-left-smaller c = (met c).less _ c.without_lowest-left.ensures
+loop-left-smaller c =
+    let m = walk_meets 64 c.requires.most c.loop-left-test.true c.lowest_line-line.ensures c.loop-left.invariant in
+    m.less _ c.without_lowest-left.ensures
 
 pub loop-left-preserved : goal.loop-left-preserved
 loop-left-preserved c =
-    let m = met c in
-    let l = c.loop-left in
+    let m = walk_meets 64 c.requires.most c.loop-left-test.true c.lowest_line-line.ensures c.loop-left.invariant in
     let line = c.lowest_line-line.result in
+    let f : SFits w64 (get_or c.loop-left.prices line (pos 0)) = search rules in
+    let left = m.kept.left line (omega arith) in
     m.on _ _ c.without_lowest-left.ensures
     (passed_store (pos 0) _ _ _ _ _ (omega (arith, m.below, m.kept.long))
-    (to_z-of_z (overflow_add-prices c) ∙ rw (back64 (get_or l.prices-1 line (pos 0)) c.prices-1.given, m.kept.left line (omega arith), m.member)) m.kept)
+    (to_z-of_z (sum_fits _ _ _ _ _ c.requires.values m.below m.member f c.ranges.change left) ∙ rw (to_z-of_z f, left, m.member)) m.kept)
     (missed _ _ _ _)
 
 pub shape_of-prices : goal.shape_of-prices
