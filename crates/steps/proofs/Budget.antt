@@ -8,7 +8,7 @@ use native.Mathlib.Omega.{arith}
 use lib.Dec.{T_not, ltb, eqb}
 use lib.IntN.{ℤ}
 use Rattle.lines.proofs.Tests.{T_false, eqb_no, eqb_yes}
-use Rattle.steps.specs.Steps.{Next, Step3, Step4, Step5, Step6, Paired, NoPairing, Unfinished, Run, Machine, machine, to, start, step3, covering, reaching, step5, augmenting, adjusting, lowest, step6, step_at, step, steps}
+use Rattle.steps.specs.Steps.{Next, Step3, Step4, Step5, Step6, Paired, NoPairing, Unfinished, Run, Machine, machine, start, step3, covering, reaching, step5, augmenting, adjusting, lowest, step6, step_at, step, steps}
 use Rattle.steps.proofs.Turns.{Lowest, step3_ind, step4_ind, step6_ind}
 use Rattle.steps.specs.Counts.{over}
 use Rattle.steps.proofs.Runs.{steps_stay, kept}

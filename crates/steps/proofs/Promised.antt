@@ -6,7 +6,7 @@ use Prim.Native.Nat.{ℕ, ◌-◌, ◌*◌, ◌/◌, ◌<◌}
 use native.Mathlib.Omega.{arith}
 use lib.Dec.{T}
 use lib.IntN.{pos}
-use Rattle.lines.specs.Sets.{has, with, all}
+use Rattle.lines.specs.Sets.{with, all}
 use Rattle.assignment.proofs.Blocks.{block_impossible}
 use Rattle.steps.specs.declared.Answer.{Answer}
 use Rattle.steps.specs.Lent.{Task, Buffers, allowed, cost}

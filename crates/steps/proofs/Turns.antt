@@ -9,7 +9,6 @@ use lib.Dec.{T, T_not, ltb, ltb→lt, nltb→le, eqb, eqb→eq, eqb_refl}
 use lib.IntN.{ℤ, pos, negsuc}
 use lib.Signed.{◌≤ℤ◌}
 use lib.ListN.{get_or, set}
-use Rattle.lines.specs.First.{least}
 use Rattle.lines.specs.Square.{cell}
 use Rattle.lines.specs.Sets.{has}
 use Rattle.lines.proofs.Tests.{cond_ind, both, and_left, and_right, T_yes, eqb_yes}

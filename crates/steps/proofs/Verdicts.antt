@@ -12,7 +12,7 @@ use lib.ListN.{length, get_or}
 use Rattle.lines.specs.First.{any}
 use Rattle.lines.proofs.Tests.{cond_ind, and_same, T_yes, and_left, and_right, eqb_yes, eqb_no}
 use Rattle.lines.proofs.Firsts.{first_is, any_is, any_no, first_ext}
-use Rattle.steps.specs.Lent.{Task, task, Buffers, allowed, allows}
+use Rattle.steps.specs.Lent.{Task, task, Buffers, allows}
 use Rattle.steps.specs.Refusal.{Verdict, refused, dead, accepted, out_of_range, room, bad_mask, bad_cost, dead_row, rules, Admitted, by_rows, judgement, verdict}
 use Rattle.steps.proofs.RuleLaws.{Every, all, ◌⨾◌, Clear, ruled}
 
