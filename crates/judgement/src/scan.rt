@@ -2,7 +2,7 @@
 ghost use Rattle.std.specs.Prelude.{◌≡◌, ◌+◌, ◌≤◌, ◌<◌, ◌^◌};
 ghost use Rattle.judgement.specs.View.{start as view_start, with_verdict, with_size, with_fragment, with_event, decided};
 
-#[derive(Drop)]
+#[derive(Clone, Copy)]
 pub enum Judged {
     More,
     Refused(u32, usize),
@@ -10,7 +10,7 @@ pub enum Judged {
 }
 
 // The offset of the next record, the size (0 before it is read), how many fragments and events there were, and the verdict so far.
-#[derive(Drop)]
+#[derive(Clone, Copy)]
 pub struct Scan {
     pub at: usize,
     pub n: usize,

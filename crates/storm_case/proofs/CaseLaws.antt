@@ -12,12 +12,11 @@ use Rattle.lines.specs.Square.{square}
 use Rattle.lines.proofs.Bounds.{cells_fit}
 use Rattle.storm_case.specs.declared.Case.{Case}
 use Rattle.storm_case.specs.declared.Hut.TheVariants.{At, Absent}
-use Rattle.judgement.specs.declared.scan.Judged.{Judged}
 use Rattle.judgement.specs.declared.scan.Judged.TheVariants.{More, Refused, Accepted}
 use Rattle.judgement.specs.declared.scan.Scan.{Scan}
 use Rattle.judgement.specs.Numbers.{u16_at}
 use Rattle.judgement.specs.Scan as D
-use Rattle.judgement.specs.View.{view_scan, view_judged, Agrees}
+use Rattle.judgement.specs.View.{view_scan, Agrees}
 use Rattle.cells.specs.Asks.{Fillable}
 use Rattle.storm_case.specs.Case.{hut_of, pair_cost, mask_byte, filled, case, case_of, has_cells, read, hut_in, hut}
 use Rattle.storm_case.proofs.Room.{Front, front_of, cells_are}

@@ -1,23 +1,14 @@
 -- The room that is lent to the reader: exactly 4,096 places for each square; and the front of a buffer, which n rows take.
-use mathlib.Core.Path.{◌≡◌, sym, ◌∙◌}
-use mathlib.Core.Bool.{Bool, true, false, not}
+use mathlib.Core.Path.{◌≡◌, sym}
+use mathlib.Core.Bool.{true}
 use mathlib.Core.List.{List}
 use Prim.Native.Nat.{ℕ, ◌≤◌}
 use native.Mathlib.Omega.{arith}
 use lib.Dec.{T, eqb, eqb→eq}
 use lib.ListN.{length, take}
 use lib.Seq.{length-take-le}
-use borrow.Author.Tests.{not-true, not-false}
 use Rattle.lines.proofs.Tests.{and_left, and_right}
 use Rattle.storm_case.specs.Case.{has_cells}
-
--- ---- a test of the room, as the code asks it
-
-pub test_passed : {b t : Bool} → b ≡ t → not b ≡ false → t ≡ true
-test_passed e n = sym e ∙ not-false _ n
-
-pub test_failed : {b t : Bool} → b ≡ t → not b ≡ true → t ≡ false
-test_failed e n = sym e ∙ not-true _ n
 
 -- ---- one buffer
 
