@@ -8,7 +8,7 @@ use lib.IntN.{ℤ}
 use lib.ListN.{length, length-append}
 use Rattle.lines.proofs.Tests.{cond_ind}
 use Rattle.text.specs.Ascii.{ascii}
-use Rattle.text.specs.Numbers.{signed, blanks}
+use Rattle.text.specs.Numbers.{signed}
 use Rattle.text.proofs.NumberLaws.{decimal_short, length_blanks}
 use Rattle.text.proofs.Lengths.{right_short, decimal_right}
 use Rattle.entries.specs.Lines.{prices, pair_line, sums_line, price_line, price_sum_line, allowed_line, hut_line}
@@ -61,11 +61,11 @@ allowed_line_short row event difference row_price event_price spare hr he d r e 
       right_short 13 13 (signed spare) (omega arith) s,
     ))
 
-pub sums_line_short : (total row_prices event-prices : ℤ) → length (signed total) ≤ 15 → length (signed row_prices) ≤ 15 → length (signed event-prices) ≤ 15
-    → length (sums_line total row_prices event-prices) ≤ 71
+pub sums_line_short : (total row_prices event_prices : ℤ) → length (signed total) ≤ 15 → length (signed row_prices) ≤ 15 → length (signed event_prices) ≤ 15
+    → length (sums_line total row_prices event_prices) ≤ 71
 unfolding sums_line
-sums_line_short total row_prices event-prices t r e =
-    simp (length-append, length_blanks) (omega (arith, prices_short 15 total row_prices event-prices (omega arith) t r e))
+sums_line_short total row_prices event_prices t r e =
+    simp (length-append, length_blanks) (omega (arith, prices_short 15 total row_prices event_prices (omega arith) t r e))
 
 pub price_line_short : (event : ℕ) (price : ℤ) → event < 64 → length (signed price) ≤ 13 → length (price_line event price) ≤ 22
 unfolding price_line

@@ -20,7 +20,7 @@ pair_line row hut event difference row_price event_price =
 
 -- below the pairs, their sums
 unfoldable pub sums_line : ℤ → ℤ → ℤ → List ℕ
-sums_line total row_prices event-prices = (32 ∷ 32 ∷ 115 ∷ 117 ∷ 109 ∷ []) ++ blanks 14 ++ prices total row_prices event-prices ++ (10 ∷ [])
+sums_line total row_prices event_prices = (32 ∷ 32 ∷ 115 ∷ 117 ∷ 109 ∷ []) ++ blanks 14 ++ prices total row_prices event_prices ++ (10 ∷ [])
 
 -- an event and its price
 unfoldable pub price_line : ℕ → ℤ → List ℕ

@@ -12,8 +12,5 @@ cell_place {n} {row} {event} h = place_fits n row event h.small h.row_below h.ev
 pub cell_inside : (n place : ℕ) → n ≤ 64 → place < n * n → place < 4096
 cell_inside n place small h = omega (arith, cells_fit {n = n} small)
 
-pub cell_some : (n place : ℕ) → place < n * n → 0 < n
-cell_some n place h = omega (arith, (place_in n place h).0)
-
 pub cell_listed : (n place : ℕ) → n ≤ 64 → place < n * n → InList n (place / n) (place % n)
 cell_listed n place small h = record { small = small; row_below = (place_in n place h).0; event_below = (place_in n place h).1 }

@@ -1,4 +1,4 @@
--- Numbers as text: the fewest digits are `decimal`; the magnitude of a negative number, which may be one more than an i64 holds.
+-- Numbers as text: the fewest digits are `decimal`; the text of a signed number, by its sign.
 use mathlib.Core.Path.{◌≡◌, refl, sym, ap, subst, ◌∙◌}
 use mathlib.Core.Bool.{Bool, true, false, cond}
 use mathlib.Core.List.{[], ◌∷◌, ◌++◌}
@@ -7,14 +7,13 @@ use native.Mathlib.Nat.{pow-suc}
 use native.Mathlib.Omega.{arith}
 use borrow.Author.Tests.{lt-ltb, le-ltb, ltb-true, ltb-false}
 use lib.Dec.{T, ltb}
-use lib.IntN.{ℤ, pos, negsuc, neg_ℤ, nat_abs, ◌+ℤ◌, ◌-ℤ◌}
+use lib.IntN.{ℤ, pos, negsuc, nat_abs}
 use lib.ListN.{length, get_or, length-append, length-replicate, get_or-replicate}
-use lib.Signed.{lt_z, non_neg}
+use lib.Signed.{lt_z}
 use mir.Syntax.{w64}
-use mir.Val.{Fits, SFits, to_z, of_z}
+use mir.Val.{SFits, to_z, of_z}
 use mir.Facts.{to_z-of_z}
 use Rattle.io.specs.Digits.{last_digits, IsDigitCount}
-use Rattle.lines.proofs.Signed.{signed, plus_parts, minus_parts, neg_parts}
 use Rattle.text.specs.Numbers.{decimal_from, decimal, sign, signed as signed-text, blanks}
 
 -- ---- decimal digits
@@ -78,59 +77,6 @@ pub blank_at : (n i : ℕ) → i < n → get_or (blanks n) i 0 ≡ 32
 unfolding blanks
 blank_at n i h = get_or-replicate n i 32 0 h
 
--- ---- the magnitude of a negative number
-
--- what a local of 64 bits gives back
-abbrev kept : ℤ → ℤ
-kept z = to_z w64 (of_z w64 z)
-
--- 1 added, then the sign changed, then 1 added
-pub record Turned (z : ℤ) : Type 0 where
-  pub more : SFits w64 (kept z +ℤ pos 1)
-  pub other : SFits w64 (pos 0 -ℤ kept (kept z +ℤ pos 1))
-  pub whole : T (non_neg (kept (pos 0 -ℤ kept (kept z +ℤ pos 1))))
-  pub fits : Fits w64 (nat_abs (kept (pos 0 -ℤ kept (kept z +ℤ pos 1))))
-  pub last : Fits w64 (nat_abs (kept (pos 0 -ℤ kept (kept z +ℤ pos 1))) + 1)
-  pub magnitude : nat_abs (kept (pos 0 -ℤ kept (kept z +ℤ pos 1))) + 1 ≡ nat_abs z
-
-turn : (z : ℤ) → SFits w64 z → lt_z z (pos 0) ≡ true → Turned z
-turn (pos n) f h = absurd (omega (arith, ltb-true n 0 h))
-turn (negsuc n) f h =
-    record {
-      more = rw up low;
-      other = rw over high;
-      whole = rw size tt;
-      fits = rw size (record { fits = omega (arith, f.sfits) });
-      last = rw size (record { fits = omega (arith, f.sfits) });
-      magnitude = rw size (omega arith);
-    }
-  where
-    low : SFits w64 (neg_ℤ (pos n))
-    low = omega (signed, neg_parts (pos n), f.sfits)
-
-    high : SFits w64 (pos n)
-    high = record { sfits = f.sfits }
-
-    up : kept (negsuc n) +ℤ pos 1 ≡ neg_ℤ (pos n)
-    up = rw (to_z-of_z f) (omega (signed, plus_parts (negsuc n) (pos 1), neg_parts (pos n)))
-
-    over : pos 0 -ℤ kept (kept (negsuc n) +ℤ pos 1) ≡ pos n
-    over = rw (up, to_z-of_z low) (omega (signed, minus_parts (pos 0) (neg_ℤ (pos n)), neg_parts (pos n)))
-
-    size : kept (pos 0 -ℤ kept (kept (negsuc n) +ℤ pos 1)) ≡ pos n
-    size = rw over (to_z-of_z high)
-
-pub turned : (z : ℤ) → SFits w64 z → lt_z (kept z) (pos 0) ≡ true → Turned z
-turned z f h = turn z f (rw (to_z-of_z f) at h)
-
--- a number that is not negative, as the code casts it
-pub whole_cast : (z : ℤ) → SFits w64 z → lt_z (kept z) (pos 0) ≡ false → T (non_neg (kept z)) × Fits w64 (nat_abs (kept z))
-whole_cast z f h = rw (to_z-of_z f) (go z f (rw (to_z-of_z f) at h))
-  where
-    go : (z : ℤ) → SFits w64 z → lt_z z (pos 0) ≡ false → T (non_neg z) × Fits w64 (nat_abs z)
-    go (pos n) f h = (tt, record { fits = omega (arith, f.sfits) })
-    go (negsuc n) f h = absurd (subst T h tt)
-
 -- ---- the text of a signed number, by its sign
 
 below : (z : ℤ) → lt_z z (pos 0) ≡ true → signed-text z ≡ (45 ∷ []) ++ decimal (nat_abs z)
@@ -142,6 +88,10 @@ above : (z : ℤ) → lt_z z (pos 0) ≡ false → signed-text z ≡ decimal (na
 unfolding signed-text sign
 above (pos n) h = refl
 above (negsuc n) h = absurd (subst T h tt)
+
+-- what a local of 64 bits gives back
+abbrev kept : ℤ → ℤ
+kept z = to_z w64 (of_z w64 z)
 
 module _ (z : ℤ) (f : SFits w64 z) (size : ℕ) (m : size ≡ nat_abs (kept z)) where
   pub signed_below : lt_z (kept z) (pos 0) ≡ true → signed-text z ≡ (45 ∷ []) ++ decimal size
