@@ -1,0 +1,12 @@
+-- `put_case` meets its contract, of what the file says.
+use Rattle.text.proofs.PutLaws.{Holds, holds_more}
+use Rattle.case_words.specs.Case.{case_lines}
+use Rattle.case_words.proofs.table.put_case.Goals as goal
+
+pub returns : goal.returns
+unfolding case_lines
+returns c =
+    let head : Holds _ _ _ _ _ = record { held = c.put_rows-after_rows.ensures } in
+    let said-rows = c.rows_of.ensures in
+    let said-events = c.events_of.ensures in
+    rw (c.huts_of.ensures, said-rows.0, said-rows.1, said-events.0, said-events.1) at (holds_more head _ c.put_events.ensures).held
