@@ -1,5 +1,5 @@
 -- Laws of the huts beside a pairing: at 20 the room is as it was, else it holds what the file says.
-use mathlib.Core.Path.{◌≡◌, sym}
+use mathlib.Core.Path.{◌≡◌}
 use mathlib.Core.Logic.{◌≢◌}
 use mathlib.Core.List.{List}
 use Prim.Native.Nat.{ℕ}
