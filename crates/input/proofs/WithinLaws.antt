@@ -2,10 +2,9 @@
 use mathlib.Core.Path.{◌≡◌}
 use mathlib.Core.List.{List}
 use Prim.Native.Nat.{ℕ}
-use Rattle.io.specs.Counts.{IsPrefixLen}
 use Rattle.input.specs.declared.Input.{Input}
 use Rattle.input.specs.declared.Input.TheVariants.{Read}
-use Rattle.input.specs.Within.{Within}
+use Rattle.input.specs.Within.{IsFront, Within}
 
-pub counted : (room : List ℕ) {i : Input} {count : ℕ} → i ≡ Read count → Within i room → IsPrefixLen count room
+pub counted : (room : List ℕ) {i : Input} {count : ℕ} → i ≡ Read count → Within i room → IsFront count room
 counted room e w = rw e at w

@@ -1,32 +1,29 @@
-// Standard input, read into a lent buffer. A read that fails is told apart from the end of the input, as `io::read_full` does not.
+// Standard input, or any other reader, read into a lent buffer. A read that fails is told apart from the end of the input, and says why.
 #![tactic(auto)]
 
-ghost use Rattle.input.specs.Within.{Within};
+ghost use Rattle.input.specs.Within.{Within, Given};
 
-use libc::STDIN_FILENO;
+use std::io;
 
 // So many bytes at the front of the buffer, or a read that failed.
 #[derive(Drop)]
 pub enum Input {
     Read(usize),
-    Failed,
+    Failed(io::Error),
 }
 
 // Until the input ends or the buffer is full. Also a read that would block has failed: the input is not at its end.
-pub fn read(room: &mut [u8]) -> Input
-    ensures { Within result room.new }
+pub fn read<R: io::Read>(reader: &mut R, room: &mut [u8]) -> Input
+    ensures within { Within result room.new }
+    ensures given { Given result (R.remaining reader.old) (R.remaining reader.new) room.new }
 {
     let mut count = 0;
     while count < room.len() {
-        let got = libc::read(STDIN_FILENO, &mut room[count..]);
-        if got < 0 {
-            return Input::Failed;
+        match reader.read(&mut room[count..]) {
+            Ok(0) => return Input::Read(count),
+            Ok(more) => count += more,
+            Err(error) => return Input::Failed(error),
         }
-        let more = io::count(got, &room[count..]);
-        if more == 0 {
-            return Input::Read(count);
-        }
-        count += more;
     }
     Input::Read(count)
 }
