@@ -1,7 +1,6 @@
 -- `coverage::find_zero_in_column` meets its contract: each row that the walk passed is covered, or has no zero in the column.
 use mathlib.Core.Path.{sym, ◌∙◌}
 use mathlib.Core.Bool.{and-false}
-use Prim.Native.Nat.{◌+◌, ◌*◌, ◌<◌}
 use native.Mathlib.Omega.{arith}
 use Rattle.lines.proofs.Loops.{missed_none, missed_more, missed_hit, missed_all}
 use Rattle.lines.proofs.Sets.{rest_lt}
@@ -19,23 +18,17 @@ loop-left-init c =
 pub overflow_mul-row : goal.overflow_mul-row
 overflow_mul-row c =
     let m = walk_meets 64 c.requires.0.word.most c.loop-left-test.true c.lowest_line-row.ensures c.loop-left.invariant in
-    let place : let a = c.args in let row = c.lowest_line-row.result in (row * a.n + a.column < a.n * a.n) × (a.column * a.n + row < a.n * a.n) = let h = m.below in
-    (place_lt c.args.n _ _ h c.requires.1, place_lt c.args.n _ _ c.requires.1 h) in
-    let p = place in omega arith
+    omega (arith, place_lt c.args.n _ _ m.below c.requires.1, place_lt c.args.n _ _ c.requires.1 m.below)
 
 pub overflow_add-row : goal.overflow_add-row
 overflow_add-row c =
     let m = walk_meets 64 c.requires.0.word.most c.loop-left-test.true c.lowest_line-row.ensures c.loop-left.invariant in
-    let place : let a = c.args in let row = c.lowest_line-row.result in (row * a.n + a.column < a.n * a.n) × (a.column * a.n + row < a.n * a.n) = let h = m.below in
-    (place_lt c.args.n _ _ h c.requires.1, place_lt c.args.n _ _ c.requires.1 h) in
-    let p = place in omega arith
+    omega (arith, place_lt c.args.n _ _ m.below c.requires.1, place_lt c.args.n _ _ c.requires.1 m.below)
 
 pub is_element_zero-requires : goal.is_element_zero-requires
 is_element_zero-requires c =
     let m = walk_meets 64 c.requires.0.word.most c.loop-left-test.true c.lowest_line-row.ensures c.loop-left.invariant in
-    let place : let a = c.args in let row = c.lowest_line-row.result in (row * a.n + a.column < a.n * a.n) × (a.column * a.n + row < a.n * a.n) = let h = m.below in
-    (place_lt c.args.n _ _ h c.requires.1, place_lt c.args.n _ _ c.requires.1 h) in
-    let p = place in omega arith
+    omega (arith, place_lt c.args.n _ _ m.below c.requires.1, place_lt c.args.n _ _ c.requires.1 m.below)
 
 pub returns-then-is_element_zero : goal.returns-then-is_element_zero
 unfolding zero_at allows

@@ -10,19 +10,13 @@ pub loop-row-init : goal.loop-row-init
 loop-row-init c = missed_none
 
 pub overflow_mul-row : goal.overflow_mul-row
-overflow_mul-row c =
-    let place = place_lt c.args.n _ _ c.loop-row-test.true c.requires.1 in
-    omega (arith, place)
+overflow_mul-row c = omega (arith, place_lt c.args.n _ _ c.loop-row-test.true c.requires.1)
 
 pub overflow_add-row : goal.overflow_add-row
-overflow_add-row c =
-    let place = place_lt c.args.n _ _ c.loop-row-test.true c.requires.1 in
-    omega (arith, place)
+overflow_add-row c = omega (arith, place_lt c.args.n _ _ c.loop-row-test.true c.requires.1)
 
 pub bounds-marks-row : goal.bounds-marks-row
-bounds-marks-row c =
-    let place = place_lt c.args.n _ _ c.loop-row-test.true c.requires.1 in
-    omega (arith, place)
+bounds-marks-row c = omega (arith, place_lt c.args.n _ _ c.loop-row-test.true c.requires.1)
 
 pub returns-then-marks-row-eq1 : goal.returns-then-marks-row-eq1
 unfolding star_in_column

@@ -1,9 +1,7 @@
 -- `path::toggle_path` meets its contract: after k turns the first k places are flipped.
 use mathlib.Core.Path.{refl, sym, ◌∙◌}
-use Prim.Native.Nat.{◌+◌, ◌*◌, ◌<◌}
 use native.Mathlib.Nat.{le_antisymm}
 use native.Mathlib.Omega.{arith}
-use lib.ListN.{get_or}
 use Rattle.lines.proofs.Squares.{place_lt}
 use Rattle.steps.specs.Steps.{flip}
 use Rattle.matrices.specs.Path.{zipped}
@@ -16,18 +14,18 @@ loop-k-init c = (omega arith, refl, c.requires.marks_square)
 
 pub overflow_mul-rows : goal.overflow_mul-rows
 overflow_mul-rows c =
-    let place : let a = c.args in let k = c.loop-k.k in get_or a.rows.now k 0 * a.n + get_or a.columns.now k 0 < a.n * a.n = let q = c.requires.inside c.loop-k.k c.loop-k-test.true in place_lt _ _ _ q.0 q.1 in
-    omega (arith, place)
+    let q = c.requires.inside c.loop-k.k c.loop-k-test.true in
+    omega (arith, place_lt c.args.n _ _ q.0 q.1)
 
 pub overflow_add-rows : goal.overflow_add-rows
 overflow_add-rows c =
-    let place : let a = c.args in let k = c.loop-k.k in get_or a.rows.now k 0 * a.n + get_or a.columns.now k 0 < a.n * a.n = let q = c.requires.inside c.loop-k.k c.loop-k-test.true in place_lt _ _ _ q.0 q.1 in
-    omega (arith, place)
+    let q = c.requires.inside c.loop-k.k c.loop-k-test.true in
+    omega (arith, place_lt c.args.n _ _ q.0 q.1)
 
 pub toggle_star-requires : goal.toggle_star-requires
 toggle_star-requires c =
-    let place : let a = c.args in let k = c.loop-k.k in get_or a.rows.now k 0 * a.n + get_or a.columns.now k 0 < a.n * a.n = let q = c.requires.inside c.loop-k.k c.loop-k-test.true in place_lt _ _ _ q.0 q.1 in
-    omega (arith, place)
+    let q = c.requires.inside c.loop-k.k c.loop-k-test.true in
+    omega (arith, place_lt c.args.n _ _ q.0 q.1)
 
 pub loop-k-preserved : goal.loop-k-preserved
 loop-k-preserved c = (

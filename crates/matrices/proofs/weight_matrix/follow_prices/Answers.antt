@@ -1,4 +1,4 @@
--- `weight_matrix::follow_prices` meets its contract: the rows so far are done (`RowsPassed`). Assumes nothing.
+-- `weight_matrix::follow_prices` meets its contract: the rows so far are done (`RowsPassed`).
 use borrow.Author.Rules.{rules}
 use mathlib.Core.Path.{◌∙◌}
 use mathlib.Core.Bool.{cond}

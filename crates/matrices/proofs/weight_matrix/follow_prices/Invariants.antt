@@ -1,4 +1,4 @@
--- `weight_matrix::follow_prices` meets its contract: the rows so far are done (`RowsPassed`). Assumes nothing.
+-- `weight_matrix::follow_prices` meets its contract: the rows so far are done (`RowsPassed`).
 use mathlib.Core.Bool.{cond}
 use Prim.Native.Nat.{◌-◌, ◌≤◌}
 use lib.IntN.{pos}

@@ -1,4 +1,4 @@
--- `weight_matrix::follow_row` meets its contract: the row's columns so far are done (`RowPassed`). Assumes nothing.
+-- `weight_matrix::follow_row` meets its contract: the row's columns so far are done (`RowPassed`).
 use borrow.Author.Rules.{rules}
 use mathlib.Core.Path.{◌≡◌, refl, ◌∙◌}
 use mathlib.Core.Bool.{Bool, true, false, not, cond}
@@ -112,8 +112,7 @@ loop-left-preserved c =
     let x = get_or c.loop-left.working (a.row * a.n + j) (pos 0) in
     let g : SFits w64 x = search rules in
     let r = c.followed_value in
-    let r_fits : SFits w64 r.result = search rules in
-    let e = to_z-of_z c.ranges.change in (
+    let r_fits : SFits w64 r.result = search rules in (
       f,
       m.on _ _ c.without_lowest-left.ensures
           (row_store _ _ _ _ _ _ j _ h (omega arith)
@@ -124,7 +123,7 @@ loop-left-preserved c =
             follow_flag,
             ← allows_is a.n a.mask.now a.row j (omega arith),
             alike a.n a.columns a.covered j h m.member,
-            e,
+            to_z-of_z c.ranges.change,
           ))
           m.kept)
           (others a.n a.mask.now a.columns a.row a.covered _ _ _),

@@ -1,4 +1,4 @@
--- `weight_matrix::follow_row` meets its contract: the row's columns so far are done (`RowPassed`). Assumes nothing.
+-- `weight_matrix::follow_row` meets its contract: the row's columns so far are done (`RowPassed`).
 use mathlib.Core.Bool.{Bool, cond}
 use mathlib.Core.List.{List}
 use Prim.Native.Nat.{ℕ, ◌+◌, ◌*◌, ◌%◌, ◌^◌, ◌≤◌}

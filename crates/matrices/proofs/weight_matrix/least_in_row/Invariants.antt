@@ -1,4 +1,4 @@
--- `weight_matrix::least_in_row` meets its contract: the least of what was handed over and of the columns so far. Assumes nothing.
+-- `weight_matrix::least_in_row` meets its contract: the least of what was handed over and of the columns so far.
 use mathlib.Core.Path.{◌≡◌}
 use mathlib.Core.Bool.{not, ◌&&◌}
 use mathlib.Core.List.{List}

@@ -1,4 +1,4 @@
--- `weight_matrix::least_uncovered` meets its contract: the search over the places of the rows so far; a covered row adds nothing. Assumes nothing.
+-- `weight_matrix::least_uncovered` meets its contract: the search over the places of the rows so far; a covered row adds nothing.
 use borrow.Author.Rules.{rules}
 use mathlib.Core.Path.{◌≡◌, refl}
 use mathlib.Core.Bool.{Bool, ◌&&◌}

@@ -1,4 +1,4 @@
--- `weight_matrix::least_uncovered` meets its contract: the search over the places of the rows so far; a covered row adds nothing. Assumes nothing.
+-- `weight_matrix::least_uncovered` meets its contract: the search over the places of the rows so far; a covered row adds nothing.
 use mathlib.Core.Path.{◌≡◌}
 use mathlib.Core.Bool.{◌&&◌}
 use mathlib.Core.List.{List}

@@ -1,4 +1,4 @@
--- `weight_matrix::sub_min_of_each_row` meets its contract: the rows and the row prices so far are done. Assumes nothing.
+-- `weight_matrix::sub_min_of_each_row` meets its contract: the rows and the row prices so far are done.
 use Prim.Native.Nat.{◌-◌, ◌≤◌}
 use lib.IntN.{pos}
 use Rattle.lines.proofs.Loops.{Passed}

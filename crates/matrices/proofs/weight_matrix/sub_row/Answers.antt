@@ -1,4 +1,4 @@
--- `weight_matrix::sub_row` meets its contract: the row's columns so far are done (`RowPassed`). Assumes nothing.
+-- `weight_matrix::sub_row` meets its contract: the row's columns so far are done (`RowPassed`).
 use borrow.Author.Rules.{rules}
 use mathlib.Core.Path.{◌∙◌}
 use native.Mathlib.Omega.{arith}

@@ -1,4 +1,4 @@
--- `weight_matrix::sub_row` meets its contract: the row's columns so far are done (`RowPassed`). Assumes nothing.
+-- `weight_matrix::sub_row` meets its contract: the row's columns so far are done (`RowPassed`).
 use mathlib.Core.Bool.{cond}
 use Prim.Native.Nat.{◌-◌, ◌≤◌, ◌*◌, ◌+◌}
 use lib.IntN.{pos, ◌-ℤ◌}
