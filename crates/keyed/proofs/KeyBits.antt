@@ -1,20 +1,17 @@
 -- Keys in the code: a local holds bits of 64, and each sum, product and cast fits them.
 use mathlib.Core.Path.{◌≡◌, refl, ap, ◌∙◌}
-use Prim.Native.Nat.{ℕ, ◌+◌, ◌*◌, ◌/◌, ◌<◌, ◌^◌}
+use Prim.Native.Nat.{ℕ, ◌/◌, ◌<◌, ◌^◌}
 use native.Mathlib.Omega.{arith}
 use lib.Dec.{T}
 use lib.IntN.{ℤ, pos, negsuc, nat_abs, ◌+ℤ◌, ◌-ℤ◌, ◌*ℤ◌}
 use lib.Signed.{◌≤ℤ◌, non_neg, mag}
-use mir.Syntax.{w32, w64}
+use mir.Syntax.{w64}
 use mir.Val.{Fits, SFits, to_z, of_z}
 use mir.Facts.{to_z-of_z, to_z_pos}
 use Rattle.lines.specs.Bounds.{Within}
 use Rattle.lines.proofs.Signed.{P, signed, plus_parts, minus_parts, neg_parts, size}
 use Rattle.keyed.specs.Keys.{less_prices}
 use Rattle.keyed.proofs.Packs.{times_parts}
-
-pub back32 : (z : ℤ) → mag z < 2 ^ 31 → to_z w32 (of_z w32 z) ≡ z
-back32 z h = to_z-of_z (record { sfits = h })
 
 pub small32 : (z : ℤ) → mag z < 2 ^ 31 → Within 2147483648 z
 small32 z h = record { above = omega (signed, neg_parts (pos 2147483648), size z); below = omega (signed, size z) }

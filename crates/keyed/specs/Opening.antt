@@ -1,5 +1,5 @@
 -- Columns that open, each row's cheapest one among them, and what the keys then tell.
-use Rattle.std.specs.Prelude.{◌≡◌, Bool, false, not, List, ℕ, ◌+◌, ◌*◌, ◌≤◌, ◌<◌, T, ℤ, pos, ◌+ℤ◌, ◌≤ℤ◌, get_or}
+use Rattle.std.specs.Prelude.{◌≡◌, Bool, false, not, List, ℕ, ◌+◌, ◌*◌, ◌<◌, T, ℤ, pos, ◌+ℤ◌, ◌≤ℤ◌, get_or}
 use Rattle.lines.specs.Square.{cell}
 use Rattle.lines.specs.Sets.{has}
 use Rattle.keyed.specs.Keys.{limit, pack, less_prices}

@@ -1,6 +1,5 @@
 -- A path flipped in place: from the prime at (i, j) to the star in its column, to the prime in that star's row, and so on; each row takes its prime's column.
 use Rattle.std.specs.Prelude.{cond, List, ℕ, zero, suc, ◌<◌, ltb, get_or, set}
-use Rattle.steps.specs.Steps.{to}
 
 module _ (n : ℕ) (prime : List ℕ) where
   unfoldable pub flipped : ℕ → List ℕ → List ℕ → ℕ → ℕ → List ℕ × List ℕ

@@ -1,0 +1,12 @@
+-- `stars::clear_marks` leaves 0 in every place.
+use Prim.Native.Nat.{◌≤◌, ◌-◌}
+use lib.ListN.{length}
+use Rattle.lines.proofs.Loops.{Passed}
+use Rattle.starred.proofs.stars.clear_marks.Given as goal
+
+abbrev pub invariant-loop-place : goal.invariant-loop-place
+invariant-loop-place l =
+    (l.place ≤ length l.initial.marks) × Passed 0 (λ k x. 0) l.initial.marks l.marks l.place
+
+abbrev pub decreases-loop-place : goal.decreases-loop-place
+decreases-loop-place l = length l.initial.marks - l.place
