@@ -1,8 +1,8 @@
 -- The ways that the code goes in steps 3 to 6, each by what it tests and what it leaves.
-use Rattle.std.specs.Prelude.{◌≡◌, ◌≢◌, true, false, not, List, ℕ, zero, ◌≤◌, ◌<◌, ltb, ℤ, pos, ◌-ℤ◌, get_or, set}
+use Rattle.std.specs.Prelude.{◌≡◌, ◌≢◌, true, false, List, ℕ, ◌≤◌, ◌<◌, ltb, ℤ, pos, ◌-ℤ◌, get_or, set}
 use Rattle.std.specs.Int.Signed.{lt_z}
 use Rattle.lines.specs.Count.{count}
-use Rattle.lines.specs.Sets.{has, with}
+use Rattle.lines.specs.Sets.{with}
 use Rattle.steps.specs.Steps.{run_with, to, covering, reaching, adjusting, lowered, raised}
 use Rattle.ground.specs.View.{view}
 use Rattle.ground.specs.declared.run.Run.{Run}
