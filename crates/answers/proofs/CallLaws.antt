@@ -1,12 +1,10 @@
 -- What the functions around the run need: what an end gives back, and the call from its verdict to its end.
 use mathlib.Core.Path.{◌≡◌, refl, sym, ap, ◌∙◌}
-use mathlib.Core.Logic.{◌≢◌, dite, inl, inr}
+use mathlib.Core.Logic.{◌≢◌, dite}
 use mathlib.Core.Bool.{Bool, true, true≢false}
-use mathlib.Core.List.{List, [], ◌∷◌}
+use mathlib.Core.List.{List}
 use mathlib.Core.Option.{Option, some, map, map-eq-some_iff}
 use Prim.Native.Nat.{ℕ, ◌*◌, ◌<◌}
-use types.Run.{OneOf}
-use denote.Enum.Declared.{tag_of}
 use native.Mathlib.Decide.{dec_lt}
 use native.Mathlib.Omega.{arith}
 use lib.Dec.{T}
@@ -37,7 +35,6 @@ use Rattle.steps.proofs.Promised.{promised}
 use Rattle.rules.proofs.Rooms.{Room, room_of}
 use Rattle.rules.specs.declared.Verdict.{Verdict}
 use Rattle.rules.specs.declared.Verdict.TheVariants.{Refused, Dead, Accepted}
-use Rattle.rules.specs.contracts.Verdict.{the_type}
 use Rattle.rules.specs.View.{view_verdict}
 use Rattle.ground.specs.declared.run.Next.{Next}
 use Rattle.ground.specs.declared.run.Next.TheVariants.{Step3, Step4, Step5, Step6, Paired, NoPairing, Unfinished}
@@ -181,11 +178,10 @@ stop_is t b (R.refused number place) s = refl
 stop_is t b (R.dead row) s = refl
 stop_is t b R.accepted s = absurd (s refl)
 
-stops : (x : Verdict) → OneOf (0 ∷ 1 ∷ []) (tag_of the_type x) → view_verdict x ≢ R.accepted
-stops (Refused number place) o e = absurd (let z : ◌≡◌ {A = ℕ} 0 1 = cc in omega arith)
-stops (Dead row) o e = absurd (let z : ◌≡◌ {A = ℕ} 0 1 = cc in omega arith)
-stops Accepted (inl e) _ = absurd (omega arith)
-stops Accepted (inr e) _ = absurd (omega arith)
+stops : (x : Verdict) → x ≢ Accepted → view_verdict x ≢ R.accepted
+stops (Refused number place) s e = let z : ◌≡◌ {A = ℕ} 0 1 = cc in absurd (omega arith)
+stops (Dead row) s e = let z : ◌≡◌ {A = ℕ} 0 1 = cc in absurd (omega arith)
+stops Accepted s e = s refl
 
 -- ---- the verdict of a call
 
@@ -202,7 +198,7 @@ module _ (n : ℕ) (costs : List ℤ) (mask : List ℕ) (budget : ℕ) (b : Buff
   pub accepted_verdict : x ≡ Accepted → R.verdict (task n costs mask budget) 64 b ≡ R.accepted
   accepted_verdict f = verdict_is ∙ ap view_verdict f
 
-  -- by the tag, which is that of a refusal or of a dead row
-  pub stopped_promise : {a : Answer} → OneOf (0 ∷ 1 ∷ []) (tag_of the_type x) → a ≡ stop n (view_verdict x) → Promise 64 (task n costs mask budget) b a b
-  stopped_promise o q =
-      promised (record { count = 0; exact = ap (judged (task n costs mask budget) b 0) verdict_is ∙ rw q (stop_is (task n costs mask budget) b (view_verdict x) (stops x o)) })
+  -- a refusal or a dead row
+  pub stopped_promise : {a : Answer} → x ≢ Accepted → a ≡ stop n (view_verdict x) → Promise 64 (task n costs mask budget) b a b
+  stopped_promise other q =
+      promised (record { count = 0; exact = ap (judged (task n costs mask budget) b 0) verdict_is ∙ rw q (stop_is (task n costs mask budget) b (view_verdict x) (stops x other)) })

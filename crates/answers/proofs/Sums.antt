@@ -15,22 +15,21 @@ use Rattle.lines.proofs.Sumsℤ.{sumℤ_ext, sumℤ_within}
 use Rattle.lines.proofs.Squares.{table_at}
 use Rattle.lines.proofs.Loops.{sumℤ_more}
 use Rattle.assignment.specs.Problem.{total}
-use Rattle.ground.proofs.Wide.{wide_fits, wide_back}
+use Rattle.ground.proofs.Wide.{wide_back}
 
--- one value more: what the cast and the addition ask, and the bits that come of them
-pub record Added (f : ℕ → ℤ) (bits k : ℕ) (z : ℤ) : Type 0 where
-  pub cast : SFits w64 (to_z w32 (of_z w32 z))
-  pub fits : SFits w64 (to_z w64 bits +ℤ to_z w64 (of_z w64 (to_z w32 (of_z w32 z))))
-  pub again : to_z w64 (of_z w64 (to_z w64 bits +ℤ to_z w64 (of_z w64 (to_z w32 (of_z w32 z))))) ≡ sumℤ f (k + 1)
+-- one value more: the addition fits, and what comes of it
+pub record Added (f : ℕ → ℤ) (sum : ℤ) (k : ℕ) (z : ℤ) : Type 0 where
+  pub fits : SFits w64 (sum +ℤ to_z w64 (of_z w64 (to_z w32 (of_z w32 z))))
+  pub again : to_z w64 (of_z w64 (sum +ℤ to_z w64 (of_z w64 (to_z w32 (of_z w32 z))))) ≡ sumℤ f (k + 1)
 
 -- at most 64 values within 1,000,000,000 are far from the limits
-pub added : (f : ℕ → ℤ) (bits k : ℕ) (z : ℤ) → to_z w64 bits ≡ sumℤ f k → z ≡ f k → k < 64 → ((i : ℕ) → i < k + 1 → Within 1000000000 (f i)) → Added f bits k z
-added f bits k z so_far new few small =
+pub added : (f : ℕ → ℤ) (sum : ℤ) (k : ℕ) (z : ℤ) → sum ≡ sumℤ f k → z ≡ f k → k < 64 → ((i : ℕ) → i < k + 1 → Within 1000000000 (f i)) → Added f sum k z
+added f sum k z so_far new few small =
     let narrow : mag z < 2 ^ 31 = rw new (within_fits w32 (small k (omega arith)) (omega arith)).sfits in
-    let more : to_z w64 bits +ℤ to_z w64 (of_z w64 (to_z w32 (of_z w32 z))) ≡ sumℤ f (k + 1) =
+    let more : sum +ℤ to_z w64 (of_z w64 (to_z w32 (of_z w32 z))) ≡ sumℤ f (k + 1) =
     ap₂ ◌+ℤ◌ so_far (wide_back z narrow ∙ new) ∙ sym (sumℤ_more f k) in
     let inside : SFits w64 (sumℤ f (k + 1)) = within_fits w64 (sumℤ_within 1000000000 f (k + 1) small) (omega arith) in
-    record { cast = wide_fits z narrow; fits = rw more inside; again = ap (λ x. to_z w64 (of_z w64 x)) more ∙ to_z-of_z inside }
+    record { fits = rw more inside; again = ap (λ x. to_z w64 (of_z w64 x)) more ∙ to_z-of_z inside }
 
 -- the total of a table of columns
 pub total_table : (cost : ℕ → ℕ → ℤ) (f : ℕ → ℕ) (n : ℕ) → total cost n (table f n) ≡ sumℤ (λ i. cost i (f i)) n

@@ -8,7 +8,7 @@ ghost use Rattle.ground.specs.View.{view, view_next, Covers};
 use crate::sets;
 
 // The step to make, with the place that it carries; or an end.
-#[derive(Drop)]
+#[derive(Clone, Copy)]
 pub enum Next {
     Step3,
     Step4,
@@ -20,7 +20,7 @@ pub enum Next {
 }
 
 // The covered rows and columns, the three counts, and what is next.
-#[derive(Drop)]
+#[derive(Clone, Copy)]
 pub struct Run {
     pub rows: u64,
     pub columns: u64,

@@ -11,7 +11,7 @@ use crate::weight_matrix;
 use ground::sets;
 
 // A cell, or none.
-#[derive(Drop)]
+#[derive(Clone, Copy)]
 pub enum Cell {
     At(usize, usize),
     Nothing,

@@ -2,7 +2,7 @@
 ghost use Rattle.std.specs.Prelude.{◌≡◌, ◌+◌, ◌*◌, ◌<◌, length};
 ghost use Rattle.lines.specs.Square.{table, square};
 ghost use Rattle.steps.specs.Lent.{allows, cost_at};
-ghost use Rattle.steps.specs.Steps.{machine, step2, step3, step4, step5, step6, step as Steps-step, start as steps_start};
+ghost use Rattle.steps.specs.Steps.{machine, step2, step3, step4, step5, step6, step as steps_step, start as steps_start};
 ghost use Rattle.ground.specs.Square.{Grid};
 ghost use Rattle.ground.specs.View.{view};
 ghost use Rattle.ground.specs.Good.{ForStart, Good, Came};
@@ -167,7 +167,7 @@ fn step(
 ) -> Run
     requires { Good n mask.now budget (machine (view run) working.old marks.old row_prices.old column_prices.old) }
     ensures { machine (view result) working.new marks.new row_prices.new column_prices.new
-        ≡ Steps-step n (allows n mask.now) budget (machine (view run) working.old marks.old row_prices.old column_prices.old) }
+        ≡ steps_step n (allows n mask.now) budget (machine (view run) working.old marks.old row_prices.old column_prices.old) }
 {
     let next = run.next;
     match next {
