@@ -1,8 +1,8 @@
 -- The ways that the code goes in steps 3 to 6, each by what it tests and what it leaves.
-use Rattle.std.specs.Prelude.{◌≡◌, ◌≢◌, true, false, not, List, ℕ, zero, ◌≤◌, ◌<◌, ltb, ℤ, pos, ◌-ℤ◌, get_or, set}
+use Rattle.std.specs.Prelude.{◌≡◌, ◌≢◌, true, false, List, ℕ, ◌≤◌, ◌<◌, ltb, ℤ, pos, ◌-ℤ◌, get_or, set}
 use Rattle.std.specs.Int.Signed.{lt_z}
 use Rattle.lines.specs.Count.{count}
-use Rattle.lines.specs.Sets.{has, with}
+use Rattle.lines.specs.Sets.{with}
 use Rattle.steps.specs.Steps.{run_with, to, covering, reaching, adjusting, lowered, raised}
 use Rattle.ground.specs.View.{view}
 use Rattle.ground.specs.declared.run.Run.{Run}
@@ -70,10 +70,10 @@ abbrev pub change : State → ℤ
 change s = value_of 64 s.best -ℤ s.risen
 
 module _ (budget : ℕ) (s : State) (row_prices column_prices : List ℤ) where
-  pub data Adjusted (r : State) (row-prices' column-prices' : List ℤ) : Type 0 where
-    blocked : lt_z s.best limit ≡ false → Goes S.NoPairing s r → row-prices' ≡ row_prices → column-prices' ≡ column_prices → Adjusted r row-prices' column-prices'
-    spent : lt_z s.best limit ≡ true → s.run.adjustments ≡ budget → Goes S.Unfinished s r → row-prices' ≡ row_prices → column-prices' ≡ column_prices
-        → Adjusted r row-prices' column-prices'
+  pub data Adjusted (r : State) (row_prices' column_prices' : List ℤ) : Type 0 where
+    blocked : lt_z s.best limit ≡ false → Goes S.NoPairing s r → row_prices' ≡ row_prices → column_prices' ≡ column_prices → Adjusted r row_prices' column_prices'
+    spent : lt_z s.best limit ≡ true → s.run.adjustments ≡ budget → Goes S.Unfinished s r → row_prices' ≡ row_prices → column_prices' ≡ column_prices
+        → Adjusted r row_prices' column_prices'
     adjusts : lt_z s.best limit ≡ true → s.run.adjustments ≢ budget → view r.run ≡ adjusting (view s.run)
         → r.risen ≡ value_of 64 s.best → r.best ≡ s.best
-        → row-prices' ≡ lowered (change s) s.run.rows row_prices → column-prices' ≡ raised (change s) s.run.columns column_prices → Adjusted r row-prices' column-prices'
+        → row_prices' ≡ lowered (change s) s.run.rows row_prices → column_prices' ≡ raised (change s) s.run.columns column_prices → Adjusted r row_prices' column_prices'
