@@ -5,7 +5,6 @@ use Prim.Native.Nat.{ℕ, ◌≤◌, min}
 use native.Mathlib.Omega.{arith}
 use lib.IntN.{ℤ}
 use lib.ListN.{length}
-use Rattle.lines.specs.Square.{table}
 use Rattle.steps.specs.Lent.{allows, cost_at}
 use Rattle.steps.specs.Steps as S
 use Rattle.steps.specs.Steps.{Machine, machine}
@@ -29,16 +28,6 @@ pub good : {n : ℕ} {costs : List ℤ} {mask : List ℕ} {budget : ℕ} {m : Ma
 good {n} {costs} h = record { cost = cost_at n costs; frame = h.tabled.frame; kept = h.tabled.kept }
 
 -- ---- between two steps
-
--- the buffers keep their lengths
-pub record SameLong (row-prices₀ column-prices₀ : List ℤ) (star₀ owner₀ prime₀ cheapest₀ : List ℕ) (key₀ row_prices column_prices : List ℤ) (star owner prime cheapest : List ℕ) (key : List ℤ) : Type 0 where
-  pub rows : length row_prices ≡ length row-prices₀
-  pub columns : length column_prices ≡ length column-prices₀
-  pub stars : length star ≡ length star₀
-  pub owners : length owner ≡ length owner₀
-  pub primes : length prime ≡ length prime₀
-  pub cheapests : length cheapest ≡ length cheapest₀
-  pub keys : length key ≡ length key₀
 
 -- some steps have led to the machine that the state shows and holds
 pub record Comes (n : ℕ) (costs : List ℤ) (mask : List ℕ) (budget : ℕ) (m : Machine) (s : State) (keys row_prices column_prices : List ℤ) (star owner prime cheapest : List ℕ) (key : List ℤ) : Type 0 where

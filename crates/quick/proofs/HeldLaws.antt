@@ -21,7 +21,7 @@ use Rattle.keyed.specs.Opening.{Known}
 use Rattle.starred.specs.Columns.{starred}
 use Rattle.quick.specs.Shown.{most_value, Lines, During, Searching, Held}
 use Rattle.keyed.proofs.Packs.{times_parts, pack_pos}
-use Rattle.quick.proofs.Choose.{value, row_named, column_named, key_is}
+use Rattle.quick.proofs.Choose.{row_named, column_named, key_is}
 use Rattle.quick.proofs.TableLaws.{within_more, above, column_small, cell_small, safe}
 use Rattle.steps.specs.Steps as S
 

@@ -26,7 +26,6 @@ use Rattle.keyed.specs.Opening.{term_at, own_term}
 use Rattle.quick.specs.Shown.{most_value, Tabled}
 use Rattle.keyed.proofs.Packs.{times_parts}
 use Rattle.keyed.proofs.Opens.{term_told, term_shut}
-use Rattle.steps.specs.Steps as S
 
 pub within_more : {L M : ℕ} {z : ℤ} → L ≤ M → Within L z → Within M z
 within_more {L} {M} {z} h w = record { above = omega (signed, w.above, neg_parts (pos L), neg_parts (pos M)); below = omega (signed, w.below) }
