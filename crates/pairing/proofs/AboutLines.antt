@@ -15,12 +15,12 @@ use Rattle.assignment.specs.Problem.{column, Pairing, AllowedPairing, Block, tot
 use Rattle.lines.specs.Sets.{has}
 use Rattle.storm_case.specs.Scan.{Scan}
 use Rattle.storm_case.specs.Case.{may_pair, clock_error}
-use Rattle.storm_case.specs.Format.{Line, row_at, column_at, clocks_apart, encode, WellFormed, Matches}
+use Rattle.storm_case.specs.Format.{Line, row_at, column_at, clocks_apart, encode, WellFormed}
 use Rattle.storm_case.proofs.FormatLaws.{well_formed_accepted}
 use Rattle.storm_case.proofs.FormatReader.{pair_allowed, allowed_pair, error_is}
 use Rattle.pairing.specs.declared.Pairs.{Pairs}
-use Rattle.pairing.specs.Pair.{Loan, enough_room, front, clock_cost, AboutFile, Solved, PairPromise}
-use Rattle.pairing.specs.Told.{summed, PairsLines, LeastPairing, ShutLines, AboutLines}
+use Rattle.pairing.specs.Pair.{Loan, enough_room, front, clock_cost, Solved, PairPromise}
+use Rattle.pairing.specs.Told.{summed, PairsLines, ShutLines, AboutLines}
 
 whole_le : {a b : ℕ} → pos a ≤ℤ pos b → a ≤ b
 whole_le {a} {b} h = leb→le a b h.le

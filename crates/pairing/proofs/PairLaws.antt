@@ -14,7 +14,6 @@ use Rattle.lines.proofs.Squares.{length_square}
 use Rattle.lines.proofs.Tests.{clash}
 use Rattle.steps.specs.declared.Answer.{Answer}
 use Rattle.steps.specs.Lent.{Buffers, task, buffers}
-use Rattle.steps.specs.Refusal as R
 use Rattle.steps.specs.Promise.{Promise}
 use Rattle.storm_case.specs.declared.Case.{Case}
 use Rattle.pairing.specs.declared.Pairs.{Pairs}
