@@ -18,7 +18,7 @@ use same::{are_columns, are_prices, are_values, is_answer};
 use solvers::solve_by;
 
 // How long each list is.
-#[derive(Drop)]
+#[derive(Clone, Copy)]
 pub struct Lengths {
     pub costs: usize,
     pub mask: usize,
@@ -30,7 +30,7 @@ pub struct Lengths {
 }
 
 // What the buffers hold before the call.
-#[derive(Drop)]
+#[derive(Clone, Copy)]
 pub struct Before {
     pub working: i64,
     pub mark: u8,
@@ -39,7 +39,7 @@ pub struct Before {
 }
 
 // A call but for its numbers. Marks may be left open.
-#[derive(Drop)]
+#[derive(Clone, Copy)]
 pub struct Call {
     pub n: usize,
     pub budget: u32,

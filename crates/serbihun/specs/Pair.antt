@@ -4,6 +4,6 @@ use Rattle.pairing.specs.declared.Pairs.{Pairs}
 use Rattle.pairing.specs.Pair.{Loan, PairPromise}
 use Rattle.case_face.specs.Case.{huts_beside}
 
-pub record PairedWithHuts (file : List ℕ) (before : Loan) (huts : List ℕ) (p : Pairs) (after : Loan) (huts-after : List ℕ) : Type 0 where
+pub record PairedWithHuts (file : List ℕ) (before : Loan) (huts : List ℕ) (p : Pairs) (after : Loan) (huts_after : List ℕ) : Type 0 where
   pub promise : PairPromise file before p after
-  pub huts_are : huts-after ≡ huts_beside file p.number huts
+  pub huts_are : huts_after ≡ huts_beside file p.number huts

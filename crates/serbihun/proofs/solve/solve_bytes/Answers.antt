@@ -2,20 +2,17 @@
 use mathlib.Core.Path.{sym}
 use lib.Seq.{length-take-le}
 use Rattle.cost_bytes.proofs.ByteLaws.{readable_fits, readable_few, read_promise}
-use borrow.Author.Rules.{rules}
 use Rattle.serbihun.proofs.solve.solve_bytes.Goals as goal
 
 pub decode-requires : goal.decode-requires
 decode-requires c = rw c.cells_to_read-cells.ensures (readable_fits _ _)
 
 pub slice_bounds-numbers-end : goal.slice_bounds-numbers-end
-slice_bounds-numbers-end c = readable_few _ _ c.cells_to_read-cells.ensures c.decode.auto.1.1.0
+slice_bounds-numbers-end c = readable_few _ _ c.cells_to_read-cells.ensures c.decode.auto.costs
 
 pub slice_bounds-solve_by-end : goal.slice_bounds-solve_by-end
 slice_bounds-solve_by-end c =
-    sym (length-take-le _ _ (readable_few _ _ c.cells_to_read-cells.ensures c.decode.auto.1.1.0))
-
--- ---- places: where the solver was called, and where the costs were read
+    sym (length-take-le _ _ (readable_few _ _ c.cells_to_read-cells.ensures c.decode.auto.costs))
 
 pub returns : goal.returns
 returns c =

@@ -1,0 +1,18 @@
+-- `costs_of` fills its list with what is said. The loop's invariant: the elements before `i` are done.
+use mathlib.Core.Path.{ap, ◌∙◌}
+use Prim.Native.Nat.{◌-◌, ◌+◌}
+use native.Mathlib.Omega.{arith}
+use lib.IntN.{pos}
+use lib.ListN.{get_or, length-replicate}
+use borrow.Author.Rules.{rules}
+use mir.Syntax.{w32, w64}
+use Rattle.lines.proofs.Wide.{back}
+use Rattle.calls.specs.Numbers.{cost_of}
+use Rattle.calls.proofs.Saying.{Done, done_none, done_more}
+use Rattle.calls.proofs.numbers.costs_of.Given as goal
+
+abbrev pub invariant-loop-i : goal.invariant-loop-i
+invariant-loop-i l = Done (pos 0) (λ k. cost_of (get_or l.said k (pos 0))) l.costs l.i
+
+abbrev pub decreases-loop-i : goal.decreases-loop-i
+decreases-loop-i l = l.count - l.i
