@@ -8,7 +8,9 @@ use Rattle.munkres.proofs.step.run_steps.Given as goal
 
 abbrev pub invariant-loop-state : goal.invariant-loop-state
 invariant-loop-state l =
-    Coming l.n l.mask l.budget (machine (view l.initial.state) l.initial.working l.initial.marks l.initial.row_prices l.initial.column_prices) (machine (view l.state) l.working l.marks l.row_prices l.column_prices)
+    Coming l.n l.mask l.budget
+    (machine (view l.initial.state) l.initial.working l.initial.marks l.initial.row_prices l.initial.column_prices)
+    (machine (view l.state) l.working l.marks l.row_prices l.column_prices)
 
 abbrev pub decreases-loop-state : goal.decreases-loop-state
 decreases-loop-state l =
