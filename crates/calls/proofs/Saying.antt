@@ -12,7 +12,7 @@ use lib.ListN.{length, get_or, set, take, length-set, get_or-append}
 use lib.Seq.{get_or-set_same, get_or-set_other, get_or-take}
 use lib.Signed.{mag}
 use mir.Syntax.{w64}
-use mir.Val.{SFits, to_z, of_z}
+use mir.Val.{to_z, of_z}
 use Rattle.lines.proofs.Wide.{back}
 use Rattle.steps.specs.declared.Answer.{Answer}
 use Rattle.steps.specs.Lent.{Task, Buffers}

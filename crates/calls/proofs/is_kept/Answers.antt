@@ -1,5 +1,4 @@
 -- What both solvers keep is kept.
-use borrow.Author.Rules.{rules}
 use Rattle.calls.proofs.Saying.{both}
 use Rattle.calls.proofs.is_kept.Goals as goal
 

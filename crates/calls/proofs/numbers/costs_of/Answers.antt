@@ -1,14 +1,14 @@
 -- `costs_of` fills its list with what is said. The loop's invariant: the elements before `i` are done.
 use mathlib.Core.Path.{ap, ◌∙◌}
-use Prim.Native.Nat.{◌-◌, ◌+◌}
 use native.Mathlib.Omega.{arith}
 use lib.IntN.{pos}
-use lib.ListN.{get_or, length-replicate}
+use lib.ListN.{length-replicate}
 use borrow.Author.Rules.{rules}
+use mir.Facts.{to_z-of_z}
 use mir.Syntax.{w32, w64}
 use Rattle.lines.proofs.Wide.{back}
 use Rattle.calls.specs.Numbers.{cost_of}
-use Rattle.calls.proofs.Saying.{Done, done_none, done_more}
+use Rattle.calls.proofs.Saying.{done_none, done_more}
 use Rattle.calls.proofs.numbers.costs_of.Goals as goal
 
 pub loop-i-init : goal.loop-i-init
@@ -17,7 +17,7 @@ loop-i-init c = done_none (pos 0) _ _ (length-replicate 4225 (pos 0))
 pub loop-i-preserved : goal.loop-i-preserved
 loop-i-preserved c =
     let l = c.loop-i in
-    done_more (pos 0) _ l.costs l.i _ (omega arith) (back w32 _ c.cost_of.type-inv ∙ c.cost_of.ensures ∙ ap cost_of (back w64 _ c.cost-of-arg.given)) l.invariant
+    done_more (pos 0) _ l.costs l.i _ (omega arith) (back w32 _ c.cost_of.type_inv ∙ c.cost_of.ensures ∙ ap cost_of (to_z-of_z {w = w64} (search rules))) l.invariant
 
 pub returns : goal.returns
 returns c = λ k l. c.loop-i.invariant.done k (omega (arith, l))

@@ -1,14 +1,9 @@
 -- `costs_of` fills its list with what is said. The loop's invariant: the elements before `i` are done.
-use mathlib.Core.Path.{ap, ◌∙◌}
-use Prim.Native.Nat.{◌-◌, ◌+◌}
-use native.Mathlib.Omega.{arith}
+use Prim.Native.Nat.{◌-◌}
 use lib.IntN.{pos}
-use lib.ListN.{get_or, length-replicate}
-use borrow.Author.Rules.{rules}
-use mir.Syntax.{w32, w64}
-use Rattle.lines.proofs.Wide.{back}
+use lib.ListN.{get_or}
 use Rattle.calls.specs.Numbers.{cost_of}
-use Rattle.calls.proofs.Saying.{Done, done_none, done_more}
+use Rattle.calls.proofs.Saying.{Done}
 use Rattle.calls.proofs.numbers.costs_of.Given as goal
 
 abbrev pub invariant-loop-i : goal.invariant-loop-i

@@ -11,4 +11,4 @@ pub returns-then-start-i : goal.returns-then-start-i
 returns-then-start-i c = λ e. absurd (false≢true e)
 
 pub returns : goal.returns
-returns c = λ e. same_bits _ _ c.result.given c.ranges.there.sfits e
+returns c = λ e. same_bits _ _ (search rules) c.ranges.there.sfits e

@@ -1,16 +1,8 @@
 -- `are_columns` says yes only where each turn found the number that is said.
-use mathlib.Core.Path.{◌∙◌}
-use mathlib.Core.Bool.{false≢true}
 use Prim.Native.Nat.{◌-◌}
-use native.Mathlib.Omega.{arith}
 use lib.IntN.{pos}
 use lib.ListN.{get_or}
-use borrow.Author.Rules.{rules}
-use borrow.Author.Tests.{not-false}
-use mir.Syntax.{w64}
-use Rattle.lines.proofs.Wide.{back}
 use Rattle.calls.specs.Numbers.{Says}
-use Rattle.calls.proofs.Saying.{says_none, says_more, says_all}
 use Rattle.calls.proofs.same.are_columns.Given as goal
 
 abbrev pub invariant-loop-i : goal.invariant-loop-i

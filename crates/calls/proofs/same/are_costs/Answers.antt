@@ -1,15 +1,11 @@
 -- `are_costs` says yes only where each turn found the number that is said.
 use mathlib.Core.Path.{◌∙◌}
 use mathlib.Core.Bool.{false≢true}
-use Prim.Native.Nat.{◌-◌}
 use native.Mathlib.Omega.{arith}
-use lib.IntN.{pos}
-use lib.ListN.{get_or}
 use borrow.Author.Rules.{rules}
-use borrow.Author.Tests.{not-false}
+use mir.Facts.{to_z-of_z}
 use mir.Syntax.{w32, w64}
 use Rattle.lines.proofs.Wide.{back}
-use Rattle.calls.specs.Numbers.{Says}
 use Rattle.calls.proofs.Saying.{says_none, says_more, says_all}
 use Rattle.calls.proofs.same.are_costs.Goals as goal
 
@@ -25,7 +21,7 @@ returns-then-not-says c = λ e. absurd (false≢true e)
 pub loop-i-preserved : goal.loop-i-preserved
 loop-i-preserved c =
     let w = c.wide_cost in
-    says_more _ _ _ _ c.loop-i.invariant (c.says.ensures (not-false _ c.if-not-says.false) ∙ back w64 _ w.type-inv ∙ w.ensures ∙ back w32 _ c.wide-cost-arg.given)
+    says_more _ _ _ _ c.loop-i.invariant (c.says.ensures c.if-not-says.false ∙ back w64 _ w.type_inv ∙ w.ensures ∙ to_z-of_z {w = w32} (search rules))
 
 pub returns : goal.returns
 returns c = λ e. says_all _ _ _ _ _ (omega arith) c.loop-i.invariant

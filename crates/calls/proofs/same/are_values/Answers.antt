@@ -1,15 +1,10 @@
 -- `are_values` says yes only where each turn found the number that is said.
 use mathlib.Core.Path.{◌∙◌}
 use mathlib.Core.Bool.{false≢true}
-use Prim.Native.Nat.{◌-◌}
 use native.Mathlib.Omega.{arith}
-use lib.IntN.{pos}
-use lib.ListN.{get_or}
 use borrow.Author.Rules.{rules}
-use borrow.Author.Tests.{not-false}
+use mir.Facts.{to_z-of_z}
 use mir.Syntax.{w64}
-use Rattle.lines.proofs.Wide.{back}
-use Rattle.calls.specs.Numbers.{Says}
 use Rattle.calls.proofs.Saying.{says_none, says_more, says_all}
 use Rattle.calls.proofs.same.are_values.Goals as goal
 
@@ -24,7 +19,7 @@ returns-then-not-says c = λ e. absurd (false≢true e)
 
 pub loop-i-preserved : goal.loop-i-preserved
 loop-i-preserved c =
-    says_more _ _ _ _ c.loop-i.invariant (c.says.ensures (not-false _ c.if-not-says.false) ∙ back w64 _ c.says-arg.given)
+    says_more _ _ _ _ c.loop-i.invariant (c.says.ensures c.if-not-says.false ∙ to_z-of_z {w = w64} (search rules))
 
 pub returns : goal.returns
 returns c = λ e. says_all _ _ _ _ _ (omega arith) c.loop-i.invariant
