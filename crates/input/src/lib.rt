@@ -1,11 +1,15 @@
-// Standard input, or any other reader, read into a lent buffer. A read that fails is told apart from the end of the input, and says why.
+// Standard input, or any other reader, read into a lent buffer, and the line that says what failed. A read that fails is told apart from the end
+// of the input.
 #![tactic(auto)]
+
+mod failure;
 
 ghost use Rattle.input.specs.Within.{Within, Given};
 
+pub use failure::fail;
 use std::io;
 
-// So many bytes at the front of the buffer, or a read that failed.
+// So many bytes at the front of the buffer, or a read that failed, and why.
 #[derive(Drop)]
 pub enum Input {
     Read(usize),

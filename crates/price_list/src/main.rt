@@ -7,29 +7,53 @@ mod print;
 mod report;
 mod word;
 
+ghost use Rattle.std.specs.Prelude.{◌≤◌, length};
+
 use input::Input;
-use libc::{STDERR_FILENO, STDOUT_FILENO};
+use std::env::{Env, FillError};
+
+// Was the program started with a word of this number? Its own name has number 0.
+fn has_word(rt: &impl Env, number: usize) -> bool {
+    !matches!(rt.arg(number, &mut []), Err(FillError::NotPresent))
+}
+
+// How many words there are, the program's own name among them; three where there are more.
+fn count_words(rt: &impl Env) -> usize {
+    for number in 0..3 {
+        if !has_word(rt, number) {
+            return number;
+        }
+    }
+    3
+}
+
+// The length of the first word behind the name, which is put at the front of the buffer; 0 where there is none, or where it is longer.
+fn first_word(rt: &impl Env, word: &mut [u8]) -> usize
+    ensures { result ≤ length word.new }
+{
+    rt.arg(1, word).unwrap_or(0)
+}
 
 // An accepted file has at most 1,032 bytes, and what is printed of a file at most 313,550.
-fn main() {
+fn main(rt: HostRuntime) {
     let mut given = [0u8; 8];
-    let length = os::arg(1, &mut given);
+    let length = first_word(&rt, &mut given);
     let short = word::is_short(&given[..length]);
-    if !word::taken(os::arg_count(), short) {
-        io::write_all(
-            STDERR_FILENO,
-            b"price_list: the only word that it takes is short\n",
-        );
+    if !word::taken(count_words(&rt), short) {
+        let _ = rt.eprintln("price_list: the only word that it takes is short");
         return;
     }
     let mut file = [0u8; 4096];
-    let Input::Read(count) = input::read(&mut file) else {
-        os::fail(b"price_list: standard input");
-        return;
+    let count = match input::read(&mut rt.stdin(), &mut file) {
+        Input::Read(count) => count,
+        Input::Failed(error) => {
+            let _ = input::fail(&mut rt.stderr(), b"price_list: standard input", error);
+            return;
+        }
     };
     let mut out = [0u8; 524288];
     let used = report::report(short, &file[..count], &mut out);
-    if !io::write_all(STDOUT_FILENO, &out[..used]) {
-        os::fail(b"price_list: standard output");
+    if let Err(error) = rt.write_all(&out[..used]) {
+        let _ = input::fail(&mut rt.stderr(), b"price_list: standard output", error);
     }
 }

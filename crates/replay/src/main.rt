@@ -6,7 +6,9 @@ mod answer;
 mod file;
 mod number;
 
-use libc::STDOUT_FILENO;
+use input::Input;
+use std::fs::File;
+use std::io::Read;
 
 // More records than there are.
 const MANY: u64 = 1_000_000;
@@ -32,9 +34,17 @@ fn is_same(answers: bool, record: &[u8]) -> bool {
     file::is_same(record)
 }
 
+// How many bytes are read until the file ends or the buffer is full; none where a read fails.
+fn read_full(file: &mut impl Read, room: &mut [u8]) -> usize {
+    match input::read(file, room) {
+        Input::Read(count) => count,
+        Input::Failed(_) => 0,
+    }
+}
+
 // Reads a record of the buffer's length and replays it.
-fn replay(fd: i32, answers: bool, record: &mut [u8]) -> usize {
-    if io::read_full(fd, record) < record.len() {
+fn replay(file: &mut impl Read, answers: bool, record: &mut [u8]) -> usize {
+    if read_full(file, record) < record.len() {
         return CUT;
     }
     if is_same(answers, record) {
@@ -44,33 +54,33 @@ fn replay(fd: i32, answers: bool, record: &mut [u8]) -> usize {
 }
 
 // Nothing may follow the last record.
-fn replay_end(fd: i32) -> usize {
+fn replay_end(file: &mut impl Read) -> usize {
     let mut rest = [0u8; 1];
-    if io::read_full(fd, &mut rest) == 0 {
+    if read_full(file, &mut rest) == 0 {
         return END;
     }
     CUT
 }
 
 // The length of the next record, 0 behind the last; longer than any record where it is cut off.
-fn next_length(fd: i32) -> usize {
+fn next_length(file: &mut impl Read) -> usize {
     let mut size = [0u8; 4];
-    if io::read_full(fd, &mut size) < 4 {
+    if read_full(file, &mut size) < 4 {
         return number::BEHIND;
     }
     number::four(&size, 0) as usize
 }
 
-fn replay_next(fd: i32, answers: bool) -> usize {
-    let length = next_length(fd);
+fn replay_next(file: &mut impl Read, answers: bool) -> usize {
+    let length = next_length(file);
     if length == 0 {
-        return replay_end(fd);
+        return replay_end(file);
     }
     if number::BEHIND <= length {
         return CUT;
     }
-    let mut record = io::large_buffer();
-    replay(fd, answers, &mut record[..length])
+    let mut record = [0u8; number::BEHIND];
+    replay(file, answers, &mut record[..length])
 }
 
 fn count(counts: &mut Counts, at: usize) {
@@ -83,13 +93,11 @@ fn count(counts: &mut Counts, at: usize) {
 }
 
 // Says which record is not as stored; the first is record 0.
-fn print_different(record: u64) {
-    io::write_all(STDOUT_FILENO, b"different: record ");
-    io::print_decimal(STDOUT_FILENO, record);
-    io::write_all(STDOUT_FILENO, b"\n");
+fn print_different(out: &impl Print, record: u64) {
+    let _ = println!(out; "different: record {record}");
 }
 
-fn note(outcome: usize, counts: &mut Counts) {
+fn note(out: &impl Print, outcome: usize, counts: &mut Counts) {
     if outcome == END {
         return;
     }
@@ -97,64 +105,66 @@ fn note(outcome: usize, counts: &mut Counts) {
         count(counts, outcome);
         count(counts, EQUAL);
     } else {
-        print_different(counts[RECORDS]);
+        print_different(out, counts[RECORDS]);
         count(counts, DIFFERENT);
     }
     count(counts, RECORDS);
 }
 
 // All records behind the header.
-fn replay_all(fd: i32, answers: bool, counts: &mut Counts) {
+fn replay_all(out: &impl Print, file: &mut impl Read, answers: bool, counts: &mut Counts) {
     let mut header = [0u8; 128];
-    io::read_full(fd, &mut header);
+    read_full(file, &mut header);
     let mut turns = MANY;
     let mut outcome = 0;
     while turns > 0 && outcome < CUT {
-        outcome = replay_next(fd, answers);
-        note(outcome, counts);
+        outcome = replay_next(file, answers);
+        note(out, outcome, counts);
         turns -= 1;
     }
 }
 
 // A byte from 128 on stands for a count.
-fn print_one(byte: u8, counts: &Counts) {
+fn print_one(out: &impl Print, byte: u8, counts: &Counts) {
     if byte < 128 {
-        let one = [byte];
-        io::write_all(STDOUT_FILENO, &one);
+        let _ = out.write_all(&[byte]);
         return;
     }
     let at = (byte - 128) as usize;
-    io::print_decimal(STDOUT_FILENO, counts[at]);
+    let _ = out.print(counts[at]);
 }
 
-fn print(form: &[u8], counts: &Counts) {
+fn print(out: &impl Print, form: &[u8], counts: &Counts) {
     let mut i = 0;
     while i < form.len() {
-        print_one(form[i], counts);
+        print_one(out, form[i], counts);
         i += 1;
     }
 }
 
-fn replay_stored(path: &[u8], answers: bool, form: &[u8]) {
-    let fd = os::open_read(path);
-    if fd < 0 {
-        os::fail(path);
-        return;
-    }
+fn replay_stored(rt: HostRuntime, path: &str, answers: bool, form: &[u8]) {
+    let mut file = match File::open(&rt, path) {
+        Ok(file) => file,
+        Err(error) => {
+            let _ = input::fail(&mut rt.stderr(), path.as_bytes(), error);
+            return;
+        }
+    };
     let mut counts = [0u64; 128];
-    replay_all(fd, answers, &mut counts);
-    libc::close(fd);
-    print(form, &counts);
+    replay_all(&rt, &mut file, answers, &mut counts);
+    print(&rt, form, &counts);
 }
 
-fn main() {
+fn main(rt: HostRuntime) {
     replay_stored(
-        b"answers",
+        rt,
+        "answers",
         true,
         b"paired \x80\nno pairing \x86\nunfinished \x87\nreplayed \xff answers of the crate: \xfb equal, \xfc different\n",
     );
     replay_stored(
-        b"files",
+        rt,
+        "files",
         false,
         b"accepted \x80\nnumber 20: \x94\nnumber 21: \x95\nnumber 22: \x96\nnumber 23: \x97\nnumber 24: \x98\nnumber 25: \x99\nnumber 26: \x9a\nreplayed \xff files: \xfb equal, \xfc different\n",
     );

@@ -8,25 +8,26 @@ mod tally;
 mod words;
 
 use call::{Tried, call};
-use libc::STDOUT_FILENO;
+use input::Input;
+use std::fs::File;
 use tally::Tally;
 use words::{BEHIND, after_word, line_end, next_word};
 
-fn print_part(text: &[u8], start: usize, end: usize) {
+fn print_part(out: &impl Print, text: &[u8], start: usize, end: usize) {
     if text.len() < end {
         return;
     }
     if end < start {
         return;
     }
-    io::write_all(STDOUT_FILENO, &text[start..end]);
+    let _ = out.write_all(&text[start..end]);
 }
 
 // The line from `from` on, behind what is to be said of it.
-fn print_line(what: &[u8], text: &[u8], from: usize) {
-    io::write_all(STDOUT_FILENO, what);
-    print_part(text, from, line_end(text, from));
-    io::write_all(STDOUT_FILENO, b"\n");
+fn print_line(out: &impl Print, what: &[u8], text: &[u8], from: usize) {
+    let _ = out.write_all(what);
+    print_part(out, text, from, line_end(text, from));
+    let _ = out.write_all(b"\n");
 }
 
 // All calls of a trial: passed where each is.
@@ -47,41 +48,41 @@ fn try_calls(text: &[u8], from: usize) -> Tried {
     }
 }
 
-fn try_one(text: &[u8], name: usize, tally: Tally) -> Tally {
+fn try_one(out: &impl Print, text: &[u8], name: usize, tally: Tally) -> Tally {
     let tried = try_calls(text, line_end(text, name));
     if tried.at == BEHIND {
-        print_line(b"MISREAD", text, name);
+        print_line(out, b"MISREAD", text, name);
         return tally::stopped(tally);
     }
     if !tried.passed {
-        print_line(b"FAILED", text, name);
+        print_line(out, b"FAILED", text, name);
     }
     tally::counted(tally, tried.at, tried.passed)
 }
 
-fn end_group(text: &[u8], from: usize, tally: Tally) -> Tally {
+fn end_group(out: &impl Print, text: &[u8], from: usize, tally: Tally) -> Tally {
     let end = line_end(text, from);
-    print_part(text, next_word(text, from), end);
-    tally::end_group(tally, end)
+    print_part(out, text, next_word(text, from), end);
+    tally::end_group(out, tally, end)
 }
 
-fn try_next(text: &[u8], tally: Tally) -> Tally {
+fn try_next(out: &impl Print, text: &[u8], tally: Tally) -> Tally {
     let name = after_word(text, tally.at, b"trial");
     if name != BEHIND {
-        return try_one(text, name, tally);
+        return try_one(out, text, name, tally);
     }
     let group = after_word(text, tally.at, b"tally");
     if group != BEHIND {
-        return end_group(text, group, tally);
+        return end_group(out, text, group, tally);
     }
     let word = next_word(text, tally.at);
     if word < text.len() {
-        print_line(b"MISREAD ", text, word);
+        print_line(out, b"MISREAD ", text, word);
     }
     tally::stopped(tally)
 }
 
-fn try_all(text: &[u8]) -> Tally {
+fn try_all(out: &impl Print, text: &[u8]) -> Tally {
     let mut tally = Tally {
         at: 0,
         more: true,
@@ -92,25 +93,31 @@ fn try_all(text: &[u8]) -> Tally {
     };
     let mut turns = BEHIND;
     while turns > 0 && tally.more {
-        tally = try_next(text, tally);
+        tally = try_next(out, text, tally);
         turns -= 1;
     }
     tally
 }
 
-fn main() {
-    let path = b"trials";
-    let fd = os::open_read(path);
-    if fd < 0 {
-        os::fail(path);
-        return;
-    }
-    let mut text = io::large_buffer();
-    let length = io::read_full(fd, &mut text);
-    libc::close(fd);
+fn main(rt: HostRuntime) {
+    let mut file = match File::open(&rt, "trials") {
+        Ok(file) => file,
+        Err(error) => {
+            let _ = input::fail(&mut rt.stderr(), b"trials", error);
+            return;
+        }
+    };
+    let mut text = [0u8; BEHIND];
+    let length = match input::read(&mut file, &mut text) {
+        Input::Read(length) => length,
+        Input::Failed(error) => {
+            let _ = input::fail(&mut rt.stderr(), b"trials", error);
+            return;
+        }
+    };
     if BEHIND <= length {
-        io::write_all(STDOUT_FILENO, b"MISREAD: too long\n");
+        let _ = rt.write_all(b"MISREAD: too long\n");
         return;
     }
-    tally::end(try_all(&text[..length]));
+    tally::end(&rt, try_all(&rt, &text[..length]));
 }

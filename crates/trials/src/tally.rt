@@ -32,24 +32,22 @@ pub(crate) fn stopped(mut tally: Tally) -> Tally {
     tally
 }
 
-fn print_of(passed: u64, tried: u64) {
-    io::print_decimal(1, passed);
-    io::write_all(1, b" of ");
-    io::print_decimal(1, tried);
+fn print_of(out: &impl Print, passed: u64, tried: u64) {
+    let _ = print!(out; "{passed} of {tried}");
 }
 
 // The numbers of a group, which ended there.
-pub(crate) fn end_group(mut tally: Tally, at: usize) -> Tally {
-    io::write_all(1, b" ");
-    print_of(tally.group_passed, tally.group_tried);
-    io::write_all(1, b"\n");
+pub(crate) fn end_group(out: &impl Print, mut tally: Tally, at: usize) -> Tally {
+    let _ = out.write_all(b" ");
+    print_of(out, tally.group_passed, tally.group_tried);
+    let _ = out.write_all(b"\n");
     tally.at = at;
     tally.group_passed = 0;
     tally.group_tried = 0;
     tally
 }
 
-pub(crate) fn end(tally: Tally) {
-    print_of(tally.passed, tally.tried);
-    io::write_all(1, b" trials passed\n");
+pub(crate) fn end(out: &impl Print, tally: Tally) {
+    print_of(out, tally.passed, tally.tried);
+    let _ = out.write_all(b" trials passed\n");
 }

@@ -6,18 +6,20 @@ mod print;
 mod report;
 
 use input::Input;
-use libc::STDOUT_FILENO;
 
 // An accepted file has at most 1,032 bytes, and what is printed of a file at most 594.
-fn main() {
+fn main(rt: HostRuntime) {
     let mut file = [0u8; 4096];
-    let Input::Read(count) = input::read(&mut file) else {
-        os::fail(b"valley: standard input");
-        return;
+    let count = match input::read(&mut rt.stdin(), &mut file) {
+        Input::Read(count) => count,
+        Input::Failed(error) => {
+            let _ = input::fail(&mut rt.stderr(), b"valley: standard input", error);
+            return;
+        }
     };
     let mut out = [0u8; 1024];
     let used = report::report(&file[..count], &mut out);
-    if !io::write_all(STDOUT_FILENO, &out[..used]) {
-        os::fail(b"valley: standard output");
+    if let Err(error) = rt.write_all(&out[..used]) {
+        let _ = input::fail(&mut rt.stderr(), b"valley: standard output", error);
     }
 }
