@@ -9,7 +9,7 @@ use lib.Seq.{get_or-take}
 use Rattle.lines.proofs.Squares.{table_at}
 use Rattle.lines.proofs.Tests.{cases}
 use Rattle.storm_case.specs.Case.{hut_of}
-use Rattle.storm_case.specs.Format.{Line, row_at, encode, WellFormed, Accepts}
+use Rattle.storm_case.specs.Format.{Line, row_at, encode, WellFormed}
 use Rattle.storm_case.proofs.FormatBytes.{case_are_bytes}
 use Rattle.storm_case.proofs.FormatLaws.{well_formed_accepted}
 use Rattle.storm_case.proofs.SaidLaws.{said_at}
