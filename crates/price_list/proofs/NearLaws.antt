@@ -9,7 +9,6 @@ use lib.ListN.{length, get_or}
 use lib.Seq.{get_or-take}
 use Rattle.lines.specs.Bounds.{Within}
 use Rattle.lines.specs.Sum.{sumℤ}
-use Rattle.lines.specs.Square.{cell}
 use Rattle.lines.proofs.Signed as Z
 use Rattle.lines.proofs.Squares.{place_lt}
 use Rattle.lines.proofs.Sumsℤ.{sumℤ_within}
@@ -20,7 +19,7 @@ use Rattle.text.specs.Numbers.{signed}
 use Rattle.text.proofs.Lengths.{signed_short}
 use Rattle.entries.proofs.Narrow.{Narrow, Sums}
 use Rattle.price_list.proofs.SolverLaws.{row_price_near, column_price_near, working_near}
-use Rattle.price_list.proofs.Theorems.{difference, spare, event_of, row_price, event_price, AddsUp, zero_number}
+use Rattle.price_list.proofs.Theorems.{spare, event_of, row_price, event_price, AddsUp, zero_number}
 
 -- farther from 0 at most
 wider : {near far : ℕ} {z : ℤ} → Within near z → near ≤ far → Within far z

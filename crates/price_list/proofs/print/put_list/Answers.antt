@@ -1,5 +1,4 @@
 -- `put_list` meets its contract, section after section.
-use borrow.Author.Rules.{rules}
 use mir.Facts.{to_z-of_z}
 use Rattle.text.proofs.PutLaws.{Holds, holds_more}
 use Rattle.price_list.specs.Report.{list_text}
@@ -12,4 +11,4 @@ returns c =
     let h2 = holds_more h1 _ c.put_case_above-after_case.ensures in
     let h3 = holds_more h2 _ c.put_pairing-after_pairing.ensures in
     let given = c.ranges in
-    rw (to_z-of_z given.total, to_z-of_z given.all_rows, to_z-of_z given.all-events) at (holds_more h3 _ c.put_least.ensures).held
+    rw (to_z-of_z given.total, to_z-of_z given.all_rows, to_z-of_z given.all_events) at (holds_more h3 _ c.put_least.ensures).held

@@ -1,5 +1,6 @@
 -- `report` meets its contract: the text of what `pair_case` and `huts_of` gave, by the answer's number.
 use borrow.Author.Rules.{rules}
+use mir.Facts.{to_z-of_z}
 use mir.Syntax.{w64}
 use Rattle.lines.proofs.Wide.{back}
 use Rattle.pairing.proofs.Fronts.{fresh_room}
@@ -20,8 +21,8 @@ put_list-requires c =
 pub returns-then-pairs-eq0 : goal.returns-then-pairs-eq0
 returns-then-pairs-eq0 c =
     report_list c.pair_case-pairs.ensures c.huts_of.ensures c.if-pairs-eq0.true
-    (back w64 c.pair_case-pairs.result.total c.struct_told.given.1.1.1.1.0.1)
-    (back w64 c.sum-all_rows.result c.sum-all_rows.type-inv) c.sum-all_rows.ensures (back w64 c.sum-all_events.result c.sum-all_events.type-inv) c.sum-all_events.ensures
+    (to_z-of_z {w = w64} (search rules))
+    (back w64 c.sum-all_rows.result c.sum-all_rows.type_inv) c.sum-all_rows.ensures (back w64 c.sum-all_events.result c.sum-all_events.type_inv) c.sum-all_events.ensures
     c.put_list.ensures
 
 pub put_block-requires : goal.put_block-requires
