@@ -1,4 +1,4 @@
--- Costs as bytes: four little_endian bytes each.
+-- Costs as bytes: four little-endian bytes each.
 use Rattle.std.specs.Prelude.{cond, not, ◌&&◌, List, [], ℕ, ◌+◌, ◌*◌, ◌/◌, ◌%◌, eqb, ltb, ℤ, pos, ◌-ℤ◌, length, get_or}
 use Rattle.lines.specs.Square.{table}
 

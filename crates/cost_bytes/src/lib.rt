@@ -1,4 +1,4 @@
-// Costs as bytes, four little_endian bytes each: how many there are to read, and what they are.
+// Costs as bytes, four little-endian bytes each: how many there are to read, and what they are.
 #![tactic(auto)]
 
 ghost use Rattle.std.specs.Prelude.{◌≡◌, ◌*◌, ◌≤◌, length, take};

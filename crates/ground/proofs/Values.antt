@@ -26,15 +26,6 @@ module _ (best : Least) (b : ℕ → Bool) (f : ℕ → ℤ) (i : ℕ) (now next
   unfolding least_from
   from_skip e y k = k ∙ rw (add-one, y, e)
 
--- one value more, that is less than the least so far, or is not
-pub lesser_less : (best : Least) (b z : ℤ) → best ≡ Value b → lt_z z b ≡ true → Value z ≡ lesser_of best z
-unfolding lesser_of
-lesser_less best b z e t = rw (e, t)
-
-pub lesser_more : (best : Least) (b z : ℤ) → best ≡ Value b → lt_z z b ≡ false → Value b ≡ lesser_of best z
-unfolding lesser_of
-lesser_more best b z e t = rw (e, t)
-
 -- what holds of each value holds of the least
 pub lesser_holds : (Q : ℤ → Type 0) (now next : Least) (y : ℤ) → next ≡ lesser_of now y → Q y → ((z : ℤ) → now ≡ Value z → Q z) → (z : ℤ) → next ≡ Value z → Q z
 unfolding lesser_of

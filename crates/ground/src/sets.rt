@@ -1,7 +1,7 @@
 // A set of rows or of columns: one 64-bit word, bit i for line i.
 ghost use Rattle.std.specs.Prelude.{◌≡◌, cond, ◌≢◌, ◌%◌, ◌^◌, ◌<◌};
 ghost use Rattle.lines.specs.First.{first};
-ghost use Rattle.lines.specs.Sets.{has, with, without, all as all-below, rest};
+ghost use Rattle.lines.specs.Sets.{has, with, without, all as all_below, rest};
 ghost use Rattle.ground.specs.Square.{InWord};
 
 pub fn cover(lines: u64, line: usize) -> u64
@@ -21,7 +21,7 @@ pub fn uncover(lines: u64, line: usize) -> u64
 // The first n lines.
 pub fn all_lines(n: usize) -> u64
     requires { InWord n }
-    ensures { result ≡ all-below n }
+    ensures { result ≡ all_below n }
 {
     0xffff_ffff_ffff_ffff >> (64 - n)
 }
