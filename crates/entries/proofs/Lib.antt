@@ -1,4 +1,3 @@
 pub mod ListLaws
-pub mod PlaceLaws
 pub mod Narrow
 pub mod Lengths

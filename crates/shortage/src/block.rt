@@ -28,6 +28,7 @@ fn put_these(out: &mut [u8], used: usize, count: usize, one: &[u8], more: &[u8])
 }
 
 // The line of a row, where the set has it.
+#[tactic(auto, unfolding(crate::specs::Block::block_row))]
 fn put_block_row(out: &mut [u8], used: usize, rows: u64, row: usize, hut: u16) -> usize
     requires { row < 64 }
     ensures { (result, out.new) ≡ put out.old used (block_row rows row hut) }

@@ -71,6 +71,7 @@ fn put_allowed_of(
 }
 
 // The line of a cell, where its pair is allowed.
+#[tactic(auto, unfolding(crate::specs::Spares::cell_line))]
 fn put_cell(
     n: usize,
     costs: &[i32; 4096],

@@ -48,10 +48,6 @@ module _ {before : List ℕ} {used : ℕ} {piece : List ℕ} {count : ℕ} where
   pasting_none h e = record { inside = h; fits = e; turns = omega arith; long = refl; pasted = paste-zero before used piece }
 
   module _ {out : List ℕ} {i : ℕ} (p : Pasting before used piece count out i) where
-    -- there is room for one more, at the code's `used + i`
-    pub pasting_room : i < count → used + i < length out
-    pasting_room h = omega (arith, p)
-
     pub pasting_more : i < count → (v : ℕ) → v ≡ get_or piece i 0 → Pasting before used piece count (set out (used + i) v) (i + 1)
     pasting_more h v e = record {
       inside = p.inside;

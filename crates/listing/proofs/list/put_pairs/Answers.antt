@@ -1,8 +1,8 @@
 -- `put_pairs` meets its contract: after so many rows their lines are put.
-use mathlib.Core.Path.{◌≡◌, ◌∙◌}
+use mathlib.Core.Path.{◌≡◌}
 use native.Mathlib.Omega.{arith}
 use Rattle.text.specs.Ascii.{ascii}
-use Rattle.text.proofs.PutLaws.{Holds, holds_begin, holds_then, holds_long}
+use Rattle.text.proofs.PutLaws.{Holds, holds_begin, holds_then}
 use Rattle.entries.specs.Lines.{each_line}
 use Rattle.listing.specs.List.{pair_lines}
 use Rattle.entries.proofs.ListLaws.{holds_line}
@@ -12,18 +12,10 @@ pub loop-row-init : goal.loop-row-init
 unfolding each_line
 loop-row-init c = (omega arith, holds_begin (record { held = c.put-at.ensures }))
 
-pub put_pair_of-at-requires : goal.put_pair_of-at-requires
-put_pair_of-at-requires c = (c.requires, c.loop-row-test.true)
-
 pub loop-row-preserved : goal.loop-row-preserved
 loop-row-preserved c =
     let loop = c.loop-row in
     (omega arith, holds_line _ loop.row loop.invariant.1 c.put_pair_of-at.ensures)
-
-pub shape_of-out : goal.shape_of-out
-shape_of-out c =
-    let head : Holds _ _ _ _ _ = record { held = c.put-at.ensures } in
-    holds_long c.loop-row.invariant.1 ∙ holds_long head
 
 pub returns : goal.returns
 unfolding pair_lines ascii

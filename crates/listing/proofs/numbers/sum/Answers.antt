@@ -1,5 +1,4 @@
 -- `sum` meets its contract: after so many values, their sum.
-use mathlib.Core.Path.{◌≡◌}
 use native.Mathlib.Omega.{arith}
 use Rattle.listing.proofs.SumLaws.{summed_none, summed_more}
 use Rattle.listing.proofs.numbers.sum.Goals as goal
@@ -11,8 +10,3 @@ pub loop-i-preserved : goal.loop-i-preserved
 loop-i-preserved c =
     let before = c.loop-i.invariant in
     (omega arith, summed_more before.1 (record { sfits = omega arith }) c.plus-total.ensures (record { sfits = omega arith }))
-
-pub returns : goal.returns
-returns c =
-    let all : c.loop-i.i ≡ c.args.n = omega arith in
-    λ held. rw (← all) (c.loop-i.invariant.1.summed (λ m h. held m (omega arith)))

@@ -1,8 +1,8 @@
 -- `put_block_rows` meets its contract: after so many rows their lines are put.
-use mathlib.Core.Path.{◌≡◌, ◌∙◌}
+use mathlib.Core.Path.{◌≡◌}
 use native.Mathlib.Omega.{arith}
 use Rattle.text.specs.Ascii.{ascii}
-use Rattle.text.proofs.PutLaws.{Holds, holds_begin, holds_then, holds_long}
+use Rattle.text.proofs.PutLaws.{Holds, holds_begin, holds_then}
 use Rattle.entries.specs.Lines.{each_line}
 use Rattle.shortage.specs.Block.{block_rows}
 use Rattle.entries.proofs.ListLaws.{holds_line}
@@ -16,11 +16,6 @@ pub loop-row-preserved : goal.loop-row-preserved
 loop-row-preserved c =
     let loop = c.loop-row in
     (omega arith, holds_line _ loop.row loop.invariant.1 c.put_block_row-at.ensures)
-
-pub shape_of-out : goal.shape_of-out
-shape_of-out c =
-    let head : Holds _ _ _ _ _ = record { held = c.put-at.ensures } in
-    holds_long c.loop-row.invariant.1 ∙ holds_long head
 
 pub returns : goal.returns
 unfolding block_rows ascii

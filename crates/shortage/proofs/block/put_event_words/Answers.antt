@@ -1,8 +1,8 @@
 -- `put_event_words` meets its contract: after so many events their words are put.
-use mathlib.Core.Path.{◌≡◌, ◌∙◌}
+use mathlib.Core.Path.{◌≡◌}
 use native.Mathlib.Omega.{arith}
 use Rattle.text.specs.Ascii.{ascii}
-use Rattle.text.proofs.PutLaws.{Holds, holds_more, holds_begin, holds_then, holds_long}
+use Rattle.text.proofs.PutLaws.{Holds, holds_more, holds_begin, holds_then}
 use Rattle.entries.specs.Lines.{each_line}
 use Rattle.shortage.specs.Block.{event_words}
 use Rattle.entries.proofs.ListLaws.{holds_line}
@@ -16,11 +16,6 @@ pub loop-event-preserved : goal.loop-event-preserved
 loop-event-preserved c =
     let loop = c.loop-event in
     (omega arith, holds_line _ loop.event loop.invariant.1 (rw c.named.ensures at c.put_event_word-at.ensures))
-
-pub shape_of-out : goal.shape_of-out
-shape_of-out c =
-    let head : Holds _ _ _ _ _ = record { held = c.put-at.ensures } in
-    holds_long (holds_more c.loop-event.invariant.1 _ c.put.ensures) ∙ holds_long head
 
 pub returns : goal.returns
 unfolding event_words ascii

@@ -1,5 +1,5 @@
 -- `count` meets its contract: after so many lines, how many of them the set has.
-use mathlib.Core.Path.{◌≡◌, refl, sym, ◌∙◌}
+use mathlib.Core.Path.{refl, sym, ◌∙◌}
 use native.Mathlib.Omega.{arith}
 use Rattle.lines.specs.Sum.{sum}
 use Rattle.lines.specs.Count.{count}
@@ -26,8 +26,3 @@ loop-line-preserved c =
         | else-has w ↦ rw (w.counted-is, count_no _ l.line (sym c.has.ensures ∙ w.if-has.false)) l.invariant.1
       ],
     )
-
-pub returns : goal.returns
-returns c =
-    let all : c.loop-line.line ≡ c.args.n = omega arith in
-    rw (← all) c.loop-line.invariant.1
