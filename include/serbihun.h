@@ -1,7 +1,7 @@
 /* The C face of the assignment solver: n rows are paired with n columns at least total cost.
    And of the case reader: a case file says costs and a mask to solve, or is paired in one call.
 
-   Link target/staticlib/libserbihun.a, which `rt staticlib serbihun` makes, on x86-64 Linux.
+   Link target/staticlib/libserbihun.a, which `tools/built serbihun` makes, on x86-64 Linux.
    The library allocates nothing, keeps nothing between calls, and checks every number that it
    is handed. What it cannot check is the caller's to keep:
    - each pointer is followed by the number of elements (not bytes) that it points to, is aligned

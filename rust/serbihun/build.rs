@@ -1,4 +1,4 @@
-//! Links libserbihun.a, which `rt staticlib serbihun` makes. SERBIHUN_LIB names its folder; else it is target/staticlib of the project.
+//! Links libserbihun.a, which `tools/built serbihun` makes. SERBIHUN_LIB names its folder; else it is target/staticlib of the project.
 use std::path::PathBuf;
 
 fn main() {
