@@ -71,10 +71,10 @@ module _ (file : List ℕ) (n window : ℕ) (fragments events : List ℕ) (i j :
   s = full n window fragments events
 
   -- what the code reads of the fragment, of the event, and makes of both
-  module _ {area clock event-area event-clock error : ℕ} {allowed : Bool}
+  module _ {area clock event_area event_clock error : ℕ} {allowed : Bool}
       (ea : area ≡ u16_at file (get_or fragments i 0 + 3)) (ec : clock ≡ u32_at file (get_or fragments i 0 + 5))
-      (eb : event-area ≡ u16_at file (get_or events j 0 + 1)) (ed : event-clock ≡ u32_at file (get_or events j 0 + 3))
-      (ee : error ≡ (clock - event-clock) + (event-clock - clock)) (ef : allowed ≡ (eqb area event-area && not (ltb window error))) where
+      (eb : event_area ≡ u16_at file (get_or events j 0 + 1)) (ed : event_clock ≡ u32_at file (get_or events j 0 + 3))
+      (ee : error ≡ (clock - event_clock) + (event_clock - clock)) (ef : allowed ≡ (eqb area event_area && not (ltb window error))) where
     error_is : error ≡ clock_error file s i j
     unfolding clock_error row_clock column_clock
     error_is = rw (ee, ec, ed, get_or-take n fragments i 0 hi, get_or-take n events j 0 hj)

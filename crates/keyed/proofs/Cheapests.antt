@@ -187,8 +187,8 @@ terms_moved B a b p p' q r z le =
     )
 
 -- the open columns rise together
-pub known_raised : (n columns : ℕ) (keys row_prices column_prices row-prices' column-prices' : List ℤ) (cheapest : List ℕ) (z : ℤ)
-    → ((j : ℕ) → j < n → has columns j ≡ false → get_or column-prices' j (pos 0) ≡ get_or column_prices j (pos 0) +ℤ z)
-    → Known n columns keys row_prices column_prices cheapest → Known n columns keys row-prices' column-prices' cheapest
-known_raised n columns keys row_prices column_prices row-prices' column-prices' cheapest z up known i hi l e j hj f =
+pub known_raised : (n columns : ℕ) (keys row_prices column_prices row_prices' column_prices' : List ℤ) (cheapest : List ℕ) (z : ℤ)
+    → ((j : ℕ) → j < n → has columns j ≡ false → get_or column_prices' j (pos 0) ≡ get_or column_prices j (pos 0) +ℤ z)
+    → Known n columns keys row_prices column_prices cheapest → Known n columns keys row_prices' column_prices' cheapest
+known_raised n columns keys row_prices column_prices row_prices' column_prices' cheapest z up known i hi l e j hj f =
     rw (up _ l e, up j hj f) (terms_moved 64 _ _ _ _ _ _ z (known i hi l e j hj f))

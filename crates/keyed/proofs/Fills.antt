@@ -17,7 +17,7 @@ use Rattle.lines.specs.First.{any, least}
 use Rattle.lines.specs.Square.{cell, square, table}
 use Rattle.lines.proofs.Firsts.{any_is}
 use Rattle.lines.proofs.Leasts.{least_is}
-use Rattle.lines.proofs.Puts.{put2, put2-at, put2-off}
+use Rattle.lines.proofs.Puts.{put2, put2_at, put2_off}
 use Rattle.lines.proofs.Signed.{signed, plus_parts, minus_parts}
 use Rattle.lines.proofs.Squares.{place_in, place_back, cell_set, length_square, square_at, table_ext}
 use Rattle.lines.proofs.Tests.{T_true, T_false, T_or, by_cases, cases}
@@ -61,9 +61,9 @@ module _ (n : ℕ) (ok : ℕ → ℕ → Bool) (cost : ℕ → ℕ → ℤ) wher
   filling_more {i} {keys₀} {keys} k here hi hk e w f = record {
     long = length-set keys (k * n + i) here ∙ f.long;
     done = below_more _ k
-        (λ j l. stored j i hi ∙ put2-off (cell (pos 0) n keys) k i here j i (λ q r. omega arith) ∙ f.done j l)
-        (stored k i hi ∙ put2-at (cell (pos 0) n keys) k i here k i refl refl ∙ e);
-    others = λ j a h ne. stored j a h ∙ put2-off (cell (pos 0) n keys) k i here j a (λ q. ne) ∙ f.others j a h ne;
+        (λ j l. stored j i hi ∙ put2_off (cell (pos 0) n keys) k i here j i (λ q r. omega arith) ∙ f.done j l)
+        (stored k i hi ∙ put2_at (cell (pos 0) n keys) k i here k i refl refl ∙ e);
+    others = λ j a h ne. stored j a h ∙ put2_off (cell (pos 0) n keys) k i here j a (λ q. ne) ∙ f.others j a h ne;
     small = below_more _ k f.small w;
   }
     where

@@ -37,8 +37,8 @@ module _ (rows : ℕ) (term : ℕ → ℤ) (key₀ : List ℤ) where
       → here ≡ lesser (get_or key k (pos 0)) (term k) → best' ≡ lesser best here → Lowered key best k → Lowered (set key k here) best' (k + 1)
   unfolding least_key lowered_key
   lowered_store {key} k here best' e h eh eb l =
-      let here-is : here ≡ lowest k = eh ∙ ap (λ x. lesser x (term k)) (l.passed.left k (omega arith)) in
+      let here_is : here ≡ lowest k = eh ∙ ap (λ x. lesser x (term k)) (l.passed.left k (omega arith)) in
       record {
-        passed = passed_store (pos 0) (lowered_key rows term) key₀ key k here h (here-is ∙ rw e) l.passed;
-        least = eb ∙ rw (add-one, e, l.least, here-is);
+        passed = passed_store (pos 0) (lowered_key rows term) key₀ key k here h (here_is ∙ rw e) l.passed;
+        least = eb ∙ rw (add-one, e, l.least, here_is);
       }

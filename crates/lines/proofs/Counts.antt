@@ -7,7 +7,7 @@ use lib.Dec.{T, ltb, ltb→lt, lt→ltb}
 use Rattle.lines.specs.Sum.{sum}
 use Rattle.lines.specs.Count.{bit, count}
 use Rattle.lines.specs.Put.{put}
-use Rattle.lines.proofs.Puts.{put_map, put-off}
+use Rattle.lines.proofs.Puts.{put_map, put_off}
 use Rattle.lines.proofs.Sums.{sum_ext, sum_mono, sum_add, le_sum, sum_const, sum_put}
 
 -- ---- sums under a guard
@@ -36,7 +36,7 @@ sum_inj on p f (suc m) n below inj = go (on m) refl (λ g. sum_inj on p g m n (�
         let t : T (on m) = rw e tt in
         let apart : sum (λ i. bit (on i) * f (p i)) m ≡ sum (λ i. bit (on i) * put f (p m) 0 (p i)) m =
         sum_ext _ _ m (λ i h. guarded (on i) (f (p i)) (put f (p m) 0 (p i))
-        (λ u. sym (put-off f (p m) 0 (p i) (λ q. omega (arith, inj i m (omega arith) (omega arith) u t q))))) in
+        (λ u. sym (put_off f (p m) 0 (p i) (λ q. omega (arith, inj i m (omega arith) (omega arith) u t q))))) in
         rw e (omega (arith, apart, rec (put f (p m) 0), sum_put f (p m) 0 n (below m (omega arith) t)))
     go false e rec = rw e (omega (arith, rec f))
 

@@ -17,7 +17,7 @@ use Rattle.lines.specs.Count.{bit, count}
 use Rattle.lines.specs.Sets.{has, with, without, all, rest, those}
 use Rattle.lines.proofs.Tests.{by_cases, clash}
 use Rattle.lines.specs.Put.{put}
-use Rattle.lines.proofs.Puts.{put-at, put-off}
+use Rattle.lines.proofs.Puts.{put_at, put_off}
 use Rattle.lines.proofs.Sums.{sum_front}
 use Rattle.lines.proofs.Counts.{count_ext}
 
@@ -159,8 +159,8 @@ module _ {op : ℕ → ℕ → ℕ} {d : ℕ} (m : Makes op d) where
   op_put : (s i j : ℕ) → has (op s i) j ≡ put (has s) i (eqb d 1) j
   op_put s i j =
       dite (ℕ_discrete j i)
-      (λ e. rw e (op_same s i ∙ sym (put-at (has s) i (eqb d 1) i refl)))
-      (λ ne. op_other s i j ne ∙ sym (put-off (has s) i (eqb d 1) j ne))
+      (λ e. rw e (op_same s i ∙ sym (put_at (has s) i (eqb d 1) i refl)))
+      (λ ne. op_other s i j ne ∙ sym (put_off (has s) i (eqb d 1) j ne))
 
   op_ones : (s i : ℕ) → ones (op s i) + bit (has s i) ≡ ones s + d
   op_ones s zero = omega (arith, ones_at (op s zero) (s / 2) d (m.bottom s) m.small, ones_step s, has_bit s)

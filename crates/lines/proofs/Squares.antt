@@ -11,7 +11,7 @@ use lib.ListN.{length, get_or, set, get_or-eq_default}
 use lib.Seq.{get_or-set_same, get_or-set_other}
 use Rattle.lines.specs.Square.{cell, table, square, each_from, each}
 use Rattle.lines.specs.Put.{put}
-use Rattle.lines.proofs.Puts.{put-at, put-off, put2, put2-at, put2-off}
+use Rattle.lines.proofs.Puts.{put_at, put_off, put2, put2_at, put2_off}
 
 -- ---- places
 
@@ -52,8 +52,8 @@ module _ {A : Type 0} (d : A) where
   pub set_put : (l : List A) (v : ℕ) (x : A) (k : ℕ) → v < length l → get_or (set l v x) k d ≡ put (λ y. get_or l y d) v x k
   set_put l v x k h =
       dite (ℕ_discrete k v)
-      (λ e. rw e (get_or-set_same l v x d h ∙ sym (put-at (λ y. get_or l y d) v x v refl)))
-      (λ ne. get_or-set_other l v k x d ne ∙ sym (put-off (λ y. get_or l y d) v x k ne))
+      (λ e. rw e (get_or-set_same l v x d h ∙ sym (put_at (λ y. get_or l y d) v x v refl)))
+      (λ ne. get_or-set_other l v k x d ne ∙ sym (put_off (λ y. get_or l y d) v x k ne))
 
   -- a store at (i, j)
   pub cell_set : (n : ℕ) (l : List A) (i j : ℕ) (x : A) (a b : ℕ) → length l ≡ n * n → i < n → j < n → b < n
@@ -61,8 +61,8 @@ module _ {A : Type 0} (d : A) where
   cell_set n l i j x a b size hi hj hb =
       dite (ℕ_discrete (a * n + b) (i * n + j))
       (λ e. let q = place_apart n a b i j hb hj e in
-      rw e (get_or-set_same l (i * n + j) x d (omega (arith, place_lt n i j hi hj)) ∙ sym (put2-at (cell d n l) i j x a b q.0 q.1)))
-      (λ ne. get_or-set_other l (i * n + j) (a * n + b) x d ne ∙ sym (put2-off (cell d n l) i j x a b (λ p q. ne (cc))))
+      rw e (get_or-set_same l (i * n + j) x d (omega (arith, place_lt n i j hi hj)) ∙ sym (put2_at (cell d n l) i j x a b q.0 q.1)))
+      (λ ne. get_or-set_other l (i * n + j) (a * n + b) x d ne ∙ sym (put2_off (cell d n l) i j x a b (λ p q. ne (cc))))
 
 -- ---- lists made of a function
 

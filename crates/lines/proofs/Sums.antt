@@ -7,7 +7,7 @@ use native.Mathlib.Decide.{ℕ_discrete}
 use native.Mathlib.Omega.{arith}
 use Rattle.lines.specs.Sum.{sum}
 use Rattle.lines.specs.Put.{put}
-use Rattle.lines.proofs.Puts.{put-at, put-off}
+use Rattle.lines.proofs.Puts.{put_at, put_off}
 
 -- two summands that agree, or are ordered, below n
 pub sum_ext : (f g : ℕ → ℕ) (n : ℕ) → ((i : ℕ) → i < n → f i ≡ g i) → sum f n ≡ sum g n
@@ -54,8 +54,8 @@ unfolding sum
 sum_put f v x zero h = omega arith
 sum_put f v x (suc n) h =
     dite (ℕ_discrete v n)
-    (λ e. omega (arith, sum_ext (put f v x) f n (λ i l. put-off f v x i (omega arith)), put-at f v x n (sym e), ap f e))
-    (λ ne. omega (arith, sum_put f v x n (omega arith), put-off f v x n (λ e. ne (sym e))))
+    (λ e. omega (arith, sum_ext (put f v x) f n (λ i l. put_off f v x i (omega arith)), put_at f v x n (sym e), ap f e))
+    (λ ne. omega (arith, sum_put f v x n (omega arith), put_off f v x n (λ e. ne (sym e))))
 
 -- what each summand lacks of b
 pub sum_rest : (f : ℕ → ℕ) (b n : ℕ) → ((i : ℕ) → i < n → f i ≤ b) → sum (λ i. b - f i) n + sum f n ≡ n * b

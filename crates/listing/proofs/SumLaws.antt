@@ -28,10 +28,10 @@ summed_none values = record { summed = λ held. refl }
 pub summed_more : {values : List ℤ} {k : ℕ} {z r : ℤ} → Summed values k z
     → SFits w64 (get_or values k (pos 0)) → Sum z (kept (get_or values k (pos 0))) r → SFits w64 r
     → Summed values (k + 1) (kept r)
-summed_more {values} {k} {z} {r} s fits more held-r = record {
+summed_more {values} {k} {z} {r} s fits more held_r = record {
   summed = λ held.
       let so_far : z ≡ sumℤ (λ i. get_or values i (pos 0)) k = s.summed (λ m h. held m (omega arith)) in
       let next = sumℤ_more (λ i. get_or values i (pos 0)) k in
       let all : SFits w64 (z +ℤ get_or values k (pos 0)) = rw (so_far, ← next) (held (k + 1) (omega arith)) in
-      to_z-of_z held-r ∙ (rw (to_z-of_z fits) at more) all ∙ rw so_far (sym next);
+      to_z-of_z held_r ∙ (rw (to_z-of_z fits) at more) all ∙ rw so_far (sym next);
 }

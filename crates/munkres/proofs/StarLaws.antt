@@ -16,7 +16,7 @@ use Rattle.lines.specs.First.{first, any}
 use Rattle.lines.specs.Square.{cell, table, square}
 use Rattle.lines.specs.Sets.{has, with}
 use Rattle.lines.proofs.Tests.{T_true, T_same, eqb_yes, by_cases}
-use Rattle.lines.proofs.Puts.{put2, put2-at, put2-off}
+use Rattle.lines.proofs.Puts.{put2, put2_at, put2_off}
 use Rattle.lines.proofs.Counts.{count_le}
 use Rattle.lines.proofs.Firsts.{first_is, first_ext, first_none, any_yes}
 use Rattle.lines.proofs.Sets.{ext, has_empty, has_those, has_with, those_lt, with_lt}
@@ -35,8 +35,8 @@ unfolding star_in_column any
 column_starred n marks i j b size hi hj hb =
     by_cases (eqb j b)
     (λ y. rw y (T_true (any test n) (any_yes test n i hi
-    (eqb_yes _ 1 (after i ∙ put2-at (cell 0 n marks) i j 1 i b refl (sym (eqb-true j b y)))))))
-    (λ y. rw y (ap (λ x. ltb x n) (first_ext _ _ n (λ k hk. ap (λ x. eqb x 1) (after k ∙ put2-off (cell 0 n marks) i j 1 k b (λ p e. eqb-false j b y (sym e)))))))
+    (eqb_yes _ 1 (after i ∙ put2_at (cell 0 n marks) i j 1 i b refl (sym (eqb-true j b y)))))))
+    (λ y. rw y (ap (λ x. ltb x n) (first_ext _ _ n (λ k hk. ap (λ x. eqb x 1) (after k ∙ put2_off (cell 0 n marks) i j 1 k b (λ p e. eqb-false j b y (sym e)))))))
   where
     test : ℕ → Bool
     test k = eqb (cell 0 n (set marks (i * n + j) 1) k b) 1

@@ -13,7 +13,7 @@ use lib.ListN.{get_or, set, length-set}
 use lib.Seq.{ext_get_or}
 use Rattle.lines.specs.Square.{cell, square}
 use Rattle.lines.specs.Put.{put}
-use Rattle.lines.proofs.Puts.{put-at, put-off, put-case}
+use Rattle.lines.proofs.Puts.{put_at, put_off, put_case}
 use Rattle.lines.proofs.Squares.{set_put, place_in, place_back, length_square, square_at}
 use Rattle.steps.specs.Steps.{star_in_row, star_in_column, prime_in_row}
 use Rattle.steps.specs.Going.{OpenZero, Shows, Search}
@@ -62,15 +62,15 @@ module _ {n : ℕ} {ok : ℕ → ℕ → Bool} {working : List ℤ} {marks : Lis
   same_owner b hb = find_row (shown n ok s i j z) s.row s.phase.matching b hb ∙ sym (find_row s.shows s.row s.phase.matching b hb)
 
   off : (a : ℕ) → a < n → put s.prime i j a < n → s.star a ≢ put s.prime i j a
-  off a ha = put-case (λ x. x < n → s.star a ≢ x) s.prime i j a
+  off a ha = put_case (λ x. x < n → s.star a ≢ x) s.prime i j a
       (λ e h q. open_off s.phase i j z.row_below z.column_below z.is_open.row z.is_open.column (ap s.star (sym e) ∙ q))
       (λ ne h. star_off s.phase a ha h)
 
   new_prime : (a : ℕ) → a < n → prime_in_row n marked a ≡ put (prime_in_row n marks) i j a
   new_prime a ha =
       find_prime (shown n ok s i j z) a (off a ha) ∙ dite (ℕ_discrete a i)
-      (λ e. ap (λ x. min x n) (put-at s.prime i j a e) ∙ (let h = z.column_below in let q : min j n ≡ j = omega arith in q) ∙ sym (put-at (prime_in_row n marks) i j a e))
-      (λ ne. ap (λ x. min x n) (put-off s.prime i j a ne) ∙ sym (find_prime s.shows a (star_off s.phase a ha)) ∙ sym (put-off (prime_in_row n marks) i j a ne))
+      (λ e. ap (λ x. min x n) (put_at s.prime i j a e) ∙ (let h = z.column_below in let q : min j n ≡ j = omega arith in q) ∙ sym (put_at (prime_in_row n marks) i j a e))
+      (λ ne. ap (λ x. min x n) (put_off s.prime i j a ne) ∙ sym (find_prime s.shows a (star_off s.phase a ha)) ∙ sym (put_off (prime_in_row n marks) i j a ne))
 
   pub lines_primed : {star owner prime : List ℕ} → Lines n marks star owner prime → Lines n marked star owner (set prime i j)
   lines_primed {star} {owner} {prime} l = record {
@@ -80,6 +80,6 @@ module _ {n : ℕ} {ok : ℕ → ℕ → Bool} {working : List ℤ} {marks : Lis
     star_is = λ a ha. l.star_is a ha ∙ sym (same_star a);
     owner_is = λ b hb. l.owner_is b hb ∙ sym (same_owner b hb);
     prime_is = λ a ha. set_put 0 prime i j a (omega (arith, l.prime_long, z.row_below)) ∙ dite (ℕ_discrete a i)
-        (λ e. put-at (λ y. get_or prime y 0) i j a e ∙ sym (put-at (prime_in_row n marks) i j a e))
-        (λ ne. put-off (λ y. get_or prime y 0) i j a ne ∙ l.prime_is a ha ∙ sym (put-off (prime_in_row n marks) i j a ne)) ∙ sym (new_prime a ha);
+        (λ e. put_at (λ y. get_or prime y 0) i j a e ∙ sym (put_at (prime_in_row n marks) i j a e))
+        (λ ne. put_off (λ y. get_or prime y 0) i j a ne ∙ l.prime_is a ha ∙ sym (put_off (prime_in_row n marks) i j a ne)) ∙ sym (new_prime a ha);
   }

@@ -12,7 +12,7 @@ use lib.IntN.{ℤ}
 use lib.ListN.{length, get_or, set, length-set}
 use Rattle.lines.specs.Square.{table}
 use Rattle.lines.specs.Put.{put}
-use Rattle.lines.proofs.Puts.{put-at, put-off}
+use Rattle.lines.proofs.Puts.{put_at, put_off}
 use Rattle.lines.proofs.Squares.{set_put, table_at, length_table}
 use Rattle.steps.specs.Steps.{clear_primes, flip, path}
 use Rattle.steps.specs.Going.{Ready}
@@ -30,12 +30,12 @@ Told n xs f = (a : ℕ) → a < n → get_or xs a 0 ≡ min (f a) n
 told_set : (n : ℕ) (xs : List ℕ) (f : ℕ → ℕ) (i v : ℕ) → i < n → n ≤ length xs → v < n → Told n xs f → Told n (set xs i v) (put f i v)
 told_set n xs f i v hi long hv t a ha =
     set_put 0 xs i v a (omega arith) ∙ dite (ℕ_discrete a i)
-    (λ e. put-at (λ y. get_or xs y 0) i v a e ∙ (let q : v ≡ min v n = omega arith in q) ∙ ap (λ x. min x n) (sym (put-at f i v a e)))
-    (λ ne. put-off (λ y. get_or xs y 0) i v a ne ∙ t a ha ∙ ap (λ x. min x n) (sym (put-off f i v a ne)))
+    (λ e. put_at (λ y. get_or xs y 0) i v a e ∙ (let q : v ≡ min v n = omega arith in q) ∙ ap (λ x. min x n) (sym (put_at f i v a e)))
+    (λ ne. put_off (λ y. get_or xs y 0) i v a ne ∙ t a ha ∙ ap (λ x. min x n) (sym (put_off f i v a ne)))
 
 module _ (n : ℕ) (prime time row₀ : ℕ → ℕ)
     (chain : (i : ℕ) → i < n → prime i < n → row₀ (prime i) < n → (prime (row₀ (prime i)) < n) × (time (row₀ (prime i)) < time i))
-    (primes : List ℕ) (primes-told : Told n primes prime) where
+    (primes : List ℕ) (primes_told : Told n primes prime) where
   record Flips (k : ℕ) (stars owners : List ℕ) (star row : ℕ → ℕ) (r j : ℕ) : Type 0 where
     stars_told : Told n (flipped n primes k stars owners r j).0 (starred prime star (on_path prime n row₀ k r))
     owners_told : Told n (flipped n primes k stars owners r j).1 (rowed prime row (on_path prime n row₀ k r))
@@ -71,7 +71,7 @@ module _ (n : ℕ) (prime time row₀ : ℕ → ℕ)
       go true e rec =
           let h : row₀ c < n = ltb-true (row₀ c) n e in
           let oe : o ≡ row₀ c = o_is ∙ (let q : min (row₀ c) n ≡ row₀ c = omega arith in q) in
-          let pe : get_or primes (row₀ c) 0 ≡ prime (row₀ c) = primes-told (row₀ c) h ∙ (let b = (earlier n prime time row₀ chain w h).0 in let q : min (prime (row₀ c)) n ≡ prime (row₀ c) = omega arith in q) in
+          let pe : get_or primes (row₀ c) 0 ≡ prime (row₀ c) = primes_told (row₀ c) h ∙ (let b = (earlier n prime time row₀ chain w h).0 in let q : min (prime (row₀ c)) n ≡ prime (row₀ c) = omega arith in q) in
           let d = rec h in
           record {
             stars_told = rw (oe, lt-ltb (row₀ c) n h, pe) d.stars_told;

@@ -74,8 +74,8 @@ module _ (n : ℕ) (costs : List ℤ) (mask : List ℕ) (budget : ℕ) (s : Stat
       let a = ap view_next e in
       turned r (flips_made h i j a) (sym er) refl refl (held_flips h i j a r.risen r.best x y)
 
-  pub turned_6 : {r : State} {row-prices' column-prices' : List ℤ} → s.run.next ≡ Step6 → Adjusted budget s row_prices column_prices r row-prices' column-prices'
-      → Turned n costs mask budget m r keys row-prices' column-prices' star owner prime cheapest key
+  pub turned_6 : {r : State} {row_prices' column_prices' : List ℤ} → s.run.next ≡ Step6 → Adjusted budget s row_prices column_prices r row_prices' column_prices'
+      → Turned n costs mask budget m r keys row_prices' column_prices' star owner prime cheapest key
   turned_6 {r} e (blocked f g ep ec) =
       let a = ap view_next e in
       let d = searching_at h S.Step6 a in

@@ -12,7 +12,7 @@ use lib.ListN.{length, get_or, length-set}
 use lib.Seq.{ext_get_or}
 use Rattle.lines.specs.Square.{cell, square, table}
 use Rattle.lines.proofs.Tests.{by_cases}
-use Rattle.lines.proofs.Puts.{put2-at, put2-off}
+use Rattle.lines.proofs.Puts.{put2_at, put2_off}
 use Rattle.lines.proofs.Squares.{place_in, place_back, cell_set, length_table, length_square, square_at, table_all}
 use Rattle.starred.specs.Written.{marks_of, with_mark}
 
@@ -28,14 +28,14 @@ module _ (n row column mark : ℕ) (marks : List ℕ) (size : length marks ≡ n
   with_mark_here b hb = by_cases (ltb column n)
       (λ e. let hc = ltb-true column n e in
       rw e (cell_set 0 n marks row column mark row b size below hc hb ∙ dite (ℕ_discrete column b)
-      (λ q. put2-at (cell 0 n marks) row column mark row b refl (sym q) ∙ rw (eq-eqb column b q))
-      (λ ne. put2-off (cell 0 n marks) row column mark row b (λ p q. ne (sym q)) ∙ rw (ne_eqb column b ne))))
+      (λ q. put2_at (cell 0 n marks) row column mark row b refl (sym q) ∙ rw (eq-eqb column b q))
+      (λ ne. put2_off (cell 0 n marks) row column mark row b (λ p q. ne (sym q)) ∙ rw (ne_eqb column b ne))))
       (λ e. rw (e, ne_eqb column b (λ q. omega (arith, ltb-false column n e))))
 
   pub with_mark_off : (a b : ℕ) → a ≢ row → b < n → cell 0 n (with_mark n row column mark marks) a b ≡ cell 0 n marks a b
   unfolding with_mark
   with_mark_off a b ne hb = by_cases (ltb column n)
-      (λ e. rw e (cell_set 0 n marks row column mark a b size below (ltb-true column n e) hb ∙ put2-off (cell 0 n marks) row column mark a b (λ p. absurd (ne p))))
+      (λ e. rw e (cell_set 0 n marks row column mark a b size below (ltb-true column n e) hb ∙ put2_off (cell 0 n marks) row column mark a b (λ p. absurd (ne p))))
       (λ e. rw e)
 
 -- ---- row by row

@@ -16,7 +16,7 @@ use Rattle.lines.specs.Square.{table, square}
 use Rattle.lines.specs.Sets.{has, with}
 use Rattle.lines.specs.Put.{put}
 use Rattle.lines.proofs.Tests.{T_false, and_same, and_right}
-use Rattle.lines.proofs.Puts.{put-at, put-off, put-case}
+use Rattle.lines.proofs.Puts.{put_at, put_off, put_case}
 use Rattle.lines.proofs.Firsts.{first_ext, first_is, ltb_min}
 use Rattle.lines.proofs.Sets.{has_empty, with_put}
 use Rattle.lines.proofs.Squares.{set_put, table_all, length_table, get_or_inside, square_at}
@@ -105,12 +105,12 @@ module _ (n : ℕ) (ok : ℕ → ℕ → Bool) (working : List ℤ) where
           matching_ext _ _ (λ a. sym (star_put a)) (λ b. sym (owner_put b))
           (none_apart n _ _ (get_or owner c n) free
           (moved n (λ i. get_or star i n) (λ j. get_or owner j n) k c hk hc (starless n (λ i. get_or star i n) (λ j. get_or owner j n) k (s.later k (omega arith)) s.matching)));
-      later = λ i l. rw (star_put i) (put-case (λ x. n ≤ x) (λ y. get_or star y n) k c i (λ q. absurd (omega arith)) (λ ne. s.later i (omega arith)));
-      star_most = λ i. rw (star_put i) (put-case (λ x. x ≤ n) (λ y. get_or star y n) k c i (λ q. omega arith) (λ ne. s.star_most i));
-      owner_most = λ j. rw (owner_put j) (put-case (λ x. x ≤ n) (λ y. get_or owner y n) c k j (λ q. omega arith) (λ ne. s.owner_most j));
+      later = λ i l. rw (star_put i) (put_case (λ x. n ≤ x) (λ y. get_or star y n) k c i (λ q. absurd (omega arith)) (λ ne. s.later i (omega arith)));
+      star_most = λ i. rw (star_put i) (put_case (λ x. x ≤ n) (λ y. get_or star y n) k c i (λ q. omega arith) (λ ne. s.star_most i));
+      owner_most = λ j. rw (owner_put j) (put_case (λ x. x ≤ n) (λ y. get_or owner y n) c k j (λ q. omega arith) (λ ne. s.owner_most j));
       held = λ j. with_put taken c j ∙ dite (ℕ_discrete j c)
-          (λ q. put-at (has taken) c true j q ∙ sym (ap (λ x. ltb x n) (owner_put j ∙ put-at (λ y. get_or owner y n) c k j q) ∙ lt-ltb k n hk))
-          (λ ne. put-off (has taken) c true j ne ∙ s.held j ∙ ap (λ x. ltb x n) (sym (owner_put j ∙ put-off (λ y. get_or owner y n) c k j ne)));
+          (λ q. put_at (has taken) c true j q ∙ sym (ap (λ x. ltb x n) (owner_put j ∙ put_at (λ y. get_or owner y n) c k j q) ∙ lt-ltb k n hk))
+          (λ ne. put_off (has taken) c true j ne ∙ s.held j ∙ ap (λ x. ltb x n) (sym (owner_put j ∙ put_off (λ y. get_or owner y n) c k j ne)));
     }
       where
         star_put : (a : ℕ) → get_or (set star k c) a n ≡ put (λ y. get_or star y n) k c a

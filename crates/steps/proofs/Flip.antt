@@ -9,7 +9,7 @@ use native.Mathlib.Omega.{arith}
 use lib.Dec.{ltb, ltb→lt, nltb→le}
 use Rattle.lines.specs.Count.{bit, count}
 use Rattle.lines.specs.Put.{put}
-use Rattle.lines.proofs.Puts.{put-off, put-case}
+use Rattle.lines.proofs.Puts.{put_off, put_case}
 use Rattle.lines.proofs.Counts.{bit_lt}
 use Rattle.steps.specs.Going.{Apart, Matching, has_star}
 use Rattle.steps.proofs.Matching.{moved, none_apart, starless, count_moved}
@@ -69,7 +69,7 @@ module _ (n : ℕ) (prime time row₀ : ℕ → ℕ)
         apart = next;
         same = λ i hi pi le.
             let ne : prime i ≢ prime r = λ e. omega (arith, (chain i hi pi (rw e h)).1, ap (λ x. time (row₀ x)) e) in
-            put-off row (prime r) r (prime i) ne ∙ w.same i hi pi (omega (arith, earlier.1));
+            put_off row (prime r) r (prime i) ne ∙ w.same i hi pi (omega (arith, earlier.1));
       }
 
       -- the row that is next still has the star that stands in this prime's column
@@ -77,7 +77,7 @@ module _ (n : ℕ) (prime time row₀ : ℕ → ℕ)
       star_next =
           let e : row (prime r) ≡ row₀ (prime r) = w.same r w.below w.primed (omega arith) in
           let b = w.apart.back (prime r) w.primed (omega arith) in
-          put-off star r (prime r) (row₀ (prime r)) (λ q. omega (arith, ap time q, earlier.1)) ∙ ap star (sym e) ∙ b.1
+          put_off star r (prime r) (row₀ (prime r)) (λ q. omega (arith, ap time q, earlier.1)) ∙ ap star (sym e) ∙ b.1
 
   module _ (Q : ℕ → ℕ → Type 0) (good : (i : ℕ) → i < n → prime i < n → Q i (prime i)) where
     flip_from : (k : ℕ) (star row : ℕ → ℕ) (r : ℕ) → time r < k → PathWalk star row r → ((i : ℕ) → i < n → star i < n → Q i (star i))
@@ -97,13 +97,13 @@ module _ (n : ℕ) (prime time row₀ : ℕ → ℕ)
         rs = on_path prime n row₀ k (row₀ (prime r))
 
         q' : (i : ℕ) → i < n → star' i < n → Q i (star' i)
-        q' i hi = put-case (λ x. x < n → Q i x) star r (prime r) i (λ e s. rw (ap prime (sym e)) (good i hi (rw e w.primed))) (λ ne s. q i hi s)
+        q' i hi = put_case (λ x. x < n → Q i x) star r (prime r) i (λ e s. rw (ap prime (sym e)) (good i hi (rw e w.primed))) (λ ne s. q i hi s)
 
         stay : (j : ℕ) → row j < n → row' j < n
-        stay j h = put-case (λ x. x < n) row (prime r) r j (λ e. w.below) (λ ne. h)
+        stay j h = put_case (λ x. x < n) row (prime r) r j (λ e. w.below) (λ ne. h)
 
         keep : (i : ℕ) → star i < n → star' i < n
-        keep i h = put-case (λ x. x < n) star r (prime r) i (λ e. w.primed) (λ ne. h)
+        keep i h = put_case (λ x. x < n) star r (prime r) i (λ e. w.primed) (λ ne. h)
 
         go : (x : Bool) → ltb (row₀ (prime r)) n ≡ x → (row₀ (prime r) < n → Flipped n Q star' row' (row₀ (prime r)) (starred prime star' rs) (rowed prime row' rs))
             → Flipped n Q star row r (starred prime star' (cond x rs [])) (rowed prime row' (cond x rs []))

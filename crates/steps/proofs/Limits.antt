@@ -13,7 +13,7 @@ use lib.Signed.{◌≤ℤ◌}
 use Rattle.lines.specs.Count.{count}
 use Rattle.lines.proofs.Tests.{cond_ind, T_true, T_false}
 use Rattle.lines.specs.Put.{put}
-use Rattle.lines.proofs.Puts.{put-case}
+use Rattle.lines.proofs.Puts.{put_case}
 use Rattle.lines.proofs.Counts.{count_ext, count_put, count_le, bit_yes, bit_no}
 use Rattle.lines.specs.Bounds.{Within}
 use Rattle.lines.proofs.Signed.{P, signed, plus_parts, minus_parts, neg_parts, whole}
@@ -59,8 +59,8 @@ module _ {n C A B : ℕ} {star row : ℕ → ℕ} {r c : ℕ → Bool} {rp cp : 
     high = l.high;
     bare = l.bare;
     flat = l.flat;
-    near = λ k h t. rw more (put-case (λ x. T (not x) → Near k) c (star i) false k (λ e f. rw e far) (λ ne f. kept k h f) t);
-    still = λ k h. put-case (λ x. T x → cp k ≤ℤ pos (B + l.before)) c (star i) false k (λ e t. absurd t) (λ ne t. l.still k h t);
+    near = λ k h t. rw more (put_case (λ x. T (not x) → Near k) c (star i) false k (λ e f. rw e far) (λ ne f. kept k h f) t);
+    still = λ k h. put_case (λ x. T x → cp k ≤ℤ pos (B + l.before)) c (star i) false k (λ e t. absurd t) (λ ne t. l.still k h t);
     rise = rw more (omega (arith, l.rise));
     past = l.past;
   }
@@ -150,13 +150,13 @@ module _ {n C A B : ℕ} {star row : ℕ → ℕ} {r c : ℕ → Bool} {rp cp : 
 
     pub limits_adjusted : ((i : ℕ) → i < n → n ≤ star i → T (not (r i))) → ((j : ℕ) → j < n → n ≤ row j → T (not (c j)))
         → Limits n C A B star row r c (λ i. cond (r i) (rp i -ℤ z) (rp i)) (λ j. cond (c j) (cp j) (cp j +ℤ z))
-    limits_adjusted bare-row bare-column = record {
+    limits_adjusted bare_row bare_column = record {
       sunk = l.sunk + P z;
       before = l.before;
       low = λ j h. cond_ind (λ x. neg_ℤ (pos B) ≤ℤ x) (c j) (cp j) (cp j +ℤ z) (λ t. l.low j h) (λ u. omega (signed, least, l.low j h, plus_parts (cp j) z));
       high = λ j h. cond_ind (λ x. x ≤ℤ pos (B + (l.sunk + P z))) (c j) (cp j) (cp j +ℤ z)
           (λ t. omega (signed, l.high j h)) (λ u. omega (signed, l.high j h, plus_parts (cp j) z));
-      bare = λ j h t. rw (T_false (c j) (bare-column j h t)) (omega (
+      bare = λ j h t. rw (T_false (c j) (bare_column j h t)) (omega (
         signed,
         whole z least,
         l.bare j h t,
@@ -164,7 +164,7 @@ module _ {n C A B : ℕ} {star row : ℕ → ℕ} {r c : ℕ → Bool} {rp cp : 
         plus_parts (cp j) (pos B),
         plus_parts (cp j +ℤ z) (pos B),
       ));
-      flat = λ i h t. rw (T_false (r i) (bare-row i h t)) (l.flat i h t);
+      flat = λ i h t. rw (T_false (r i) (bare_row i h t)) (l.flat i h t);
       near = λ j h u. rw (T_false (c j) u) (omega (
         signed,
         whole z least,

@@ -12,7 +12,7 @@ use Rattle.lines.specs.Count.{count}
 use Rattle.lines.specs.Square.{cell, square}
 use Rattle.lines.proofs.Tests.{eqb_yes}
 use Rattle.lines.specs.Put.{put}
-use Rattle.lines.proofs.Puts.{put-at, put-off, put2-case}
+use Rattle.lines.proofs.Puts.{put_at, put_off, put2_case}
 use Rattle.lines.proofs.Counts.{count_ext}
 use Rattle.lines.proofs.Firsts.{first_only, ltb_min}
 use Rattle.lines.proofs.Squares.{cell_set, length_each, each_cell, length_square, square_all}
@@ -49,8 +49,8 @@ mark_cong prime s t a b (inr d) = if_neg (ℕ_discrete (s a) b) d.0 1 _ ∙ sym 
 shift : (s : ℕ → ℕ) (v x y a b : ℕ) → (a ≡ v → (x ≢ b) × (y ≢ b)) → (put s v x a ≡ put s v y a) ⊎ ((put s v x a ≢ b) × (put s v y a ≢ b))
 shift s v x y a b d =
     dite (ℕ_discrete a v)
-    (λ e. inr (rw (put-at s v x a e, put-at s v y a e) (d e)))
-    (λ ne. inl (put-off s v x a ne ∙ sym (put-off s v y a ne)))
+    (λ e. inr (rw (put_at s v x a e, put_at s v y a e) (d e)))
+    (λ ne. inl (put_off s v x a ne ∙ sym (put_off s v y a ne)))
 
 pub show_none : (n : ℕ) → Shows n (λ i. n) (λ i. n) (square (λ i j. 0) n)
 show_none n = record { size = length_square (λ i j. 0) n; marked = λ a b hb. square_all 0 n a b ∙ sym (mark_none (λ i. n) (λ i. n) a b (omega arith) (omega arith)) }
@@ -60,8 +60,8 @@ module _ (n : ℕ) (star prime : ℕ → ℕ) (marks : List ℕ) (i j : ℕ) (hi
   pub show_starred : Shows n (put star i n) prime marks → Shows n (put star i j) prime (set marks (i * n + j) 1)
   show_starred s = record {
     size = length-set marks (i * n + j) 1 ∙ s.size;
-    marked = λ a b hb. cell_set 0 n marks i j 1 a b s.size hi hj hb ∙ put2-case (λ x. x ≡ mark (put star i j) prime a b) (cell 0 n marks) i j 1 a b
-        (λ ea eb. sym (mark_star (put star i j) prime a b (put-at star i j a ea ∙ sym eb)))
+    marked = λ a b hb. cell_set 0 n marks i j 1 a b s.size hi hj hb ∙ put2_case (λ x. x ≡ mark (put star i j) prime a b) (cell 0 n marks) i j 1 a b
+        (λ ea eb. sym (mark_star (put star i j) prime a b (put_at star i j a ea ∙ sym eb)))
         (λ d. s.marked a b hb ∙ mark_cong prime (put star i n) (put star i j) a b (shift star i n j a b (λ e. (omega arith, λ q. d e (sym q)))));
   }
 
@@ -69,11 +69,11 @@ module _ (n : ℕ) (star prime : ℕ → ℕ) (marks : List ℕ) (i j : ℕ) (hi
   pub show_unstarred : star i ≡ j → prime i ≢ j → Shows n star prime marks → Shows n (put star i n) prime (set marks (i * n + j) 0)
   show_unstarred e p s = record {
     size = length-set marks (i * n + j) 0 ∙ s.size;
-    marked = λ a b hb. cell_set 0 n marks i j 0 a b s.size hi hj hb ∙ put2-case (λ x. x ≡ mark (put star i n) prime a b) (cell 0 n marks) i j 0 a b
-        (λ ea eb. sym (mark_none (put star i n) prime a b (λ q. omega (arith, put-at star i n a ea)) (λ q. p (cc))))
+    marked = λ a b hb. cell_set 0 n marks i j 0 a b s.size hi hj hb ∙ put2_case (λ x. x ≡ mark (put star i n) prime a b) (cell 0 n marks) i j 0 a b
+        (λ ea eb. sym (mark_none (put star i n) prime a b (λ q. omega (arith, put_at star i n a ea)) (λ q. p (cc))))
         (λ d. s.marked a b hb ∙ mark_cong prime star (put star i n) a b (dite (ℕ_discrete a i)
-        (λ ea. inr ((λ q. d ea (cc)), λ q. omega (arith, put-at star i n a ea)))
-        (λ ne. inl (sym (put-off star i n a ne)))));
+        (λ ea. inr ((λ q. d ea (cc)), λ q. omega (arith, put_at star i n a ea)))
+        (λ ne. inl (sym (put_off star i n a ne)))));
   }
 
   -- row i has no prime and no star at j, and gets a prime there
@@ -81,13 +81,13 @@ module _ (n : ℕ) (star prime : ℕ → ℕ) (marks : List ℕ) (i j : ℕ) (hi
   unfolding mark
   show_primed new off s = record {
     size = length-set marks (i * n + j) 2 ∙ s.size;
-    marked = λ a b hb. cell_set 0 n marks i j 2 a b s.size hi hj hb ∙ put2-case (λ x. x ≡ mark star (put prime i j) a b) (cell 0 n marks) i j 2 a b
-        (λ ea eb. sym (mark_prime star (put prime i j) a b (λ q. off (cc)) (put-at prime i j a ea ∙ sym eb)))
+    marked = λ a b hb. cell_set 0 n marks i j 2 a b s.size hi hj hb ∙ put2_case (λ x. x ≡ mark star (put prime i j) a b) (cell 0 n marks) i j 2 a b
+        (λ ea eb. sym (mark_prime star (put prime i j) a b (λ q. off (cc)) (put_at prime i j a ea ∙ sym eb)))
         (λ d. s.marked a b hb ∙ dite (ℕ_discrete (star a) b)
         (λ e. mark_star star prime a b e ∙ sym (mark_star star (put prime i j) a b e))
         (λ ne. dite (ℕ_discrete a i)
-        (λ ea. mark_none star prime a b ne (λ q. omega (arith, ap prime ea)) ∙ sym (mark_none star (put prime i j) a b ne (λ q. d ea (cc (put-at prime i j a ea)))))
-        (λ na. ap (λ x. ite (ℕ_discrete (star a) b) 1 (ite (ℕ_discrete x b) 2 0)) (sym (put-off prime i j a na)))));
+        (λ ea. mark_none star prime a b ne (λ q. omega (arith, ap prime ea)) ∙ sym (mark_none star (put prime i j) a b ne (λ q. d ea (cc (put_at prime i j a ea)))))
+        (λ na. ap (λ x. ite (ℕ_discrete (star a) b) 1 (ite (ℕ_discrete x b) 2 0)) (sym (put_off prime i j a na)))));
   }
 
 -- a row without a star has none, whatever number says so
@@ -95,8 +95,8 @@ pub show_bare : (n : ℕ) (star prime : ℕ → ℕ) (marks : List ℕ) (i : ℕ
 show_bare n star prime marks i h s = record {
   size = s.size;
   marked = λ a b hb. s.marked a b hb ∙ mark_cong prime star (put star i n) a b (dite (ℕ_discrete a i)
-      (λ e. inr ((λ q. omega (arith, ap star e)), λ q. omega (arith, put-at star i n a e)))
-      (λ ne. inl (sym (put-off star i n a ne))));
+      (λ e. inr ((λ q. omega (arith, ap star e)), λ q. omega (arith, put_at star i n a e)))
+      (λ ne. inl (sym (put_off star i n a ne))));
 }
 
 -- a prime goes, and what is no prime stays

@@ -8,7 +8,7 @@ use native.Mathlib.Omega.{arith}
 use lib.Dec.{ltb}
 use Rattle.lines.specs.Count.{bit, count}
 use Rattle.lines.specs.Put.{put}
-use Rattle.lines.proofs.Puts.{put-at, put-off, put_map}
+use Rattle.lines.proofs.Puts.{put_at, put_off, put_map}
 use Rattle.lines.proofs.Counts.{count_ext, count_put, bit_lt}
 use Rattle.steps.specs.Going.{Apart, Matching, has_star}
 
@@ -16,17 +16,17 @@ use Rattle.steps.specs.Going.{Apart, Matching, has_star}
 pub moved : (n : ℕ) (star row : ℕ → ℕ) (r c : ℕ) → r < n → c < n → Apart n star row r → Apart n (put star r c) (put row c r) (row c)
 moved n star row r c hr hc w = record {
   there = λ i hi ne s. dite (ℕ_discrete i r)
-      (λ e. cc (put-at star r c i e, put-at row c r c refl))
-      (λ d. let es : put star r c i ≡ star i = put-off star r c i d in
+      (λ e. cc (put_at star r c i e, put_at row c r c refl))
+      (λ d. let es : put star r c i ≡ star i = put_off star r c i d in
       let ei : row (star i) ≡ i = w.there i hi d (omega arith) in
       let nc : star i ≢ c = λ q. ne (cc) in
-      cc (put-off row c r (star i) nc));
+      cc (put_off row c r (star i) nc));
   back = λ j hj h. dite (ℕ_discrete j c)
-      (λ e. let er : put row c r j ≡ r = put-at row c r j e in
-      (λ q. (w.back c hc (omega arith)).0 (cc), cc (put-at star r c r refl)))
-      (λ d. let er : put row c r j ≡ row j = put-off row c r j d in
+      (λ e. let er : put row c r j ≡ r = put_at row c r j e in
+      (λ q. (w.back c hc (omega arith)).0 (cc), cc (put_at star r c r refl)))
+      (λ d. let er : put row c r j ≡ row j = put_off row c r j d in
       let b : (row j ≢ r) × (star (row j) ≡ j) = w.back j hj (omega arith) in
-      (λ q. d (cc ((w.back c hc (omega arith)).1, b.1)), cc (put-off star r c (row j) b.0, b.1)));
+      (λ q. d (cc ((w.back c hc (omega arith)).1, b.1)), cc (put_off star r c (row j) b.0, b.1)));
 }
 
 pub none_apart : (n : ℕ) (star row : ℕ → ℕ) (r : ℕ) → n ≤ r → Apart n star row r → Matching n star row

@@ -92,7 +92,7 @@ module _ (n : ℕ) (ok : ℕ → ℕ → Bool) (s₀ : ℕ) (f g : ℕ → ℕ) 
 
   -- ---- every step
 
-  module _ (more-f : (s : ℕ) → s₀ ≤ s → s < n → f s + s ≤ f (suc s)) (more-g : (s : ℕ) → s₀ ≤ s → s < n → g s + suc s ≤ g (suc s)) (budget : ℕ) where
+  module _ (more_f : (s : ℕ) → s₀ ≤ s → s < n → f s + s ≤ f (suc s)) (more_g : (s : ℕ) → s₀ ≤ s → s < n → g s + suc s ≤ g (suc s)) (budget : ℕ) where
     pub paced_step : (m : Machine) → Shape n m → Sound n ok m → Paced m → Paced (step n ok budget m)
     unfolding step step_at step5 augmenting covering reaching adjusting
     paced_step m shape sound paced = go m.run.next sound.at_next paced.at_next
@@ -131,7 +131,7 @@ module _ (n : ℕ) (ok : ℕ → ℕ → Bool) (s₀ : ℕ) (f g : ℕ → ℕ) 
             let spare : p.d ≢ 1 = λ e. let q = p.zero e in none _ _ q.2.row_below q.2.column_below q.2.is_open q.2.zero in
             record { at_next = record { since = p.pace.since; adjustments = omega (arith, p.pace.adjustments, p.flag); primes = p.pace.primes; augmentations = p.pace.augmentations; seen = p.pace.seen } })
         go (Step5 i j) s p = record {
-          at_next = rw (one_star_more n ok s) (record { since = omega (arith, p.since); adjustments = omega (arith, p.adjustments, more-f _ p.since (few s)); primes = omega (arith, p.primes, more-g _ p.since (few s)); augmentations = omega (arith, p.augmentations); seen = p.seen });
+          at_next = rw (one_star_more n ok s) (record { since = omega (arith, p.since); adjustments = omega (arith, p.adjustments, more_f _ p.since (few s)); primes = omega (arith, p.primes, more_g _ p.since (few s)); augmentations = omega (arith, p.augmentations); seen = p.seen });
         }
         go Step6 h p =
             step6_ind n ok budget m.run m.working m.row_prices m.column_prices (λ o. Paced (machine o.0 o.1 m.marks o.2 o.3))

@@ -11,7 +11,7 @@ use lib.ListN.{length, set}
 use Rattle.lines.specs.Square.{cell}
 use Rattle.lines.proofs.Tests.{cond_ind}
 use Rattle.lines.specs.Put.{put}
-use Rattle.lines.proofs.Puts.{put-at}
+use Rattle.lines.proofs.Puts.{put_at}
 use Rattle.steps.specs.Going.{Ends, Matching, Shows}
 use Rattle.steps.specs.Steps.{star_in_column, prime_in_row, path, flip}
 use Rattle.steps.proofs.Flip.{on_path, starred, PathWalk, walk_on, earlier, star_next}
@@ -112,7 +112,7 @@ module _ {n : ℕ} {star₀ prime : ℕ → ℕ} {marks₀ : List ℕ} (shown : 
 
       shows₁ : Shows n star' prime marks₁
       shows₁ =
-          let e : cell 0 n marks r c ≡ 2 = s.marked r c w.primed ∙ mark_prime (put star r n) prime r c (λ q. omega (arith, put-at star r n r refl, w.primed)) refl in
+          let e : cell 0 n marks r c ≡ 2 = s.marked r c w.primed ∙ mark_prime (put star r n) prime r c (λ q. omega (arith, put_at star r n r refl, w.primed)) refl in
           rw e (show_starred n star prime marks r c w.below w.primed s)
 
       marks₂ : row₀ c < n → List ℕ

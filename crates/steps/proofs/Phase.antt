@@ -9,7 +9,7 @@ use lib.Dec.{T, T_not, not_T, ltb→lt, lt→ltb}
 use Rattle.lines.specs.Count.{bit, count}
 use Rattle.lines.proofs.Tests.{T_or, both, T_yes}
 use Rattle.lines.specs.Put.{put}
-use Rattle.lines.proofs.Puts.{put-at, put-off, put-case}
+use Rattle.lines.proofs.Puts.{put_at, put_off, put_case}
 use Rattle.lines.proofs.Counts.{count_ext, count_put, count_inj, count_minus, count_pos, count_miss, uncovered, bit_no}
 use Rattle.steps.specs.Going.{Phase, Matching, has_star}
 
@@ -75,18 +75,18 @@ module _ {n : ℕ} {Zero : ℕ → ℕ → Type 0} {star row prime time : ℕ �
 
     -- an earlier row's prime and time are what they were
     kept : (o t : ℕ) → (prime o < n) × (time o < t) → (put prime i j o < n) × (put time i (count r n) o < t)
-    kept o t h = rw (put-off prime i j o (others o h.0), put-off time i (count r n) o (others o h.0)) h
+    kept o t h = rw (put_off prime i j o (others o h.0), put_off time i (count r n) o (others o h.0)) h
 
     -- also where row i has no star, and step 5 follows
     pub chain' : (a : ℕ) → a < n → put prime i j a < n → row (put prime i j a) < n
         → (put prime i j (row (put prime i j a)) < n) × (put time i (count r n) (row (put prime i j a)) < put time i (count r n) a)
     chain' a ha = dite (ℕ_discrete a i)
-        (λ e. rw (put-at prime i j a e, put-at time i (count r n) a e) (λ p h.
+        (λ e. rw (put_at prime i j a e, put_at time i (count r n) a e) (λ p h.
         let q = (s.covered (row j) h (over j hj uj h)).1 in kept (row j) (count r n) (q, s.times (row j) h q)))
-        (λ ne. rw (put-off prime i j a ne, put-off time i (count r n) a ne) (λ p h. kept (row (prime a)) (time a) (s.chain a ha p h)))
+        (λ ne. rw (put_off prime i j a ne, put_off time i (count r n) a ne) (λ p h. kept (row (prime a)) (time a) (s.chain a ha p h)))
 
     pub primes' : (a : ℕ) → a < n → put prime i j a < n → Zero a (put prime i j a)
-    primes' a ha = put-case (λ x. x < n → Zero a x) prime i j a (λ e p. rw e z) (λ ne p. s.primes a ha p)
+    primes' a ha = put_case (λ x. x < n → Zero a x) prime i j a (λ e p. rw e z) (λ ne p. s.primes a ha p)
 
     pub one_more : count (put r i true) n ≡ suc (count r n)
     unfolding bit
@@ -99,26 +99,26 @@ module _ {n : ℕ} {Zero : ℕ → ℕ → Type 0} {star row prime time : ℕ �
       stars = s.stars;
       primes = primes';
       covered = λ a ha. dite (ℕ_discrete a i)
-          (λ e t. (rw e hs, rw (put-at prime i j a e) hj))
-          (λ ne. rw (put-off r i true a ne, put-off prime i j a ne) (s.covered a ha));
+          (λ e t. (rw e hs, rw (put_at prime i j a e) hj))
+          (λ ne. rw (put_off r i true a ne, put_off prime i j a ne) (s.covered a ha));
       primed = λ a ha. dite (ℕ_discrete a i)
-          (λ e p. rw (put-at r i true a e) tt)
-          (λ ne. rw (put-off r i true a ne, put-off prime i j a ne) (s.primed a ha));
+          (λ e p. rw (put_at r i true a e) tt)
+          (λ ne. rw (put_off r i true a ne, put_off prime i j a ne) (s.primed a ha));
       crossed = λ b hb. dite (ℕ_discrete b (star i))
-          (λ e. rw (put-at c (star i) false b e) (λ t. absurd t))
-          (λ ne. rw (put-off c (star i) false b ne) (λ t.
+          (λ e. rw (put_at c (star i) false b e) (λ t. absurd t))
+          (λ ne. rw (put_off c (star i) false b ne) (λ t.
           let x = s.crossed b hb t in
           let d : row b ≢ i = λ e. ne (cc (s.matching.back b hb x.0).1) in
-          (x.0, rw (put-off r i true (row b) d) x.1)));
+          (x.0, rw (put_off r i true (row b) d) x.1)));
       crosses = λ b hb h. dite (ℕ_discrete (row b) i)
-          (λ e. rw (put-at r i true (row b) e) (λ t. absurd t))
-          (λ ne. rw (put-off r i true (row b) ne) (λ t.
+          (λ e. rw (put_at r i true (row b) e) (λ t. absurd t))
+          (λ ne. rw (put_off r i true (row b) ne) (λ t.
           let d : b ≢ star i = λ e. ne (ap row e ∙ s.matching.there i hi (omega arith) hs) in
-          rw (put-off c (star i) false b d) (s.crosses b hb h t)));
+          rw (put_off c (star i) false b d) (s.crosses b hb h t)));
       chain = chain';
       times = λ a ha. dite (ℕ_discrete a i)
-          (λ e p. rw (put-at time i (count r n) a e) (omega (arith, one_more)))
-          (λ ne. rw (put-off time i (count r n) a ne, put-off prime i j a ne) (λ p. omega (arith, one_more, s.times a ha p)));
+          (λ e p. rw (put_at time i (count r n) a e) (omega (arith, one_more)))
+          (λ ne. rw (put_off time i (count r n) a ne, put_off prime i j a ne) (λ p. omega (arith, one_more, s.times a ha p)));
     }
 
   -- the rows with a star that are not covered

@@ -11,7 +11,7 @@ use lib.ListN.{length, set}
 use Rattle.lines.specs.Count.{count}
 use Rattle.lines.specs.Sets.{has, with, without}
 use Rattle.lines.specs.Put.{put}
-use Rattle.lines.proofs.Puts.{put-at}
+use Rattle.lines.proofs.Puts.{put_at}
 use Rattle.lines.proofs.Counts.{count_ext, count_le, bit_ge}
 use Rattle.lines.proofs.Firsts.{ltb_min}
 use Rattle.lines.proofs.Sets.{has_empty, has_those, with_put, without_put}
@@ -113,13 +113,13 @@ module _ (n : ℕ) (ok : ℕ → ℕ → Bool) where
       early =
           omega (
             arith,
-            put-at s.time i (count (has rows) n) i refl,
+            put_at s.time i (count (has rows) n) i refl,
             one_more s.phase i j s.last.row_below s.last.column_below s.last.is_open.row s.last.is_open.column (s.last.is_open.allowed, s.last.zero),
             count_le (put (has rows) i true) n,
           )
 
       pub at_prime : prime' i ≡ j
-      at_prime = put-at s.prime i j i refl
+      at_prime = put_at s.prime i j i refl
 
       abbrev pub star' : ℕ → ℕ
       star' = F.starred prime' s.star (F.on_path prime' n s.row n i)

@@ -12,7 +12,7 @@ use lib.ListN.{set}
 use Rattle.lines.specs.Square.{square}
 use Rattle.lines.proofs.Tests.{cond_ind, both, and_left, and_right}
 use Rattle.lines.specs.Put.{put}
-use Rattle.lines.proofs.Puts.{put-off, put-case}
+use Rattle.lines.proofs.Puts.{put_off, put_case}
 use Rattle.lines.proofs.Counts.{count_pos}
 use Rattle.lines.proofs.Firsts.{first_is}
 use Rattle.steps.specs.Steps.{star_in_column, star_count, zero_at, excess, free_zero, star_row, step2, start}
@@ -62,9 +62,9 @@ module _ (n : ℕ) (ok : ℕ → ℕ → Bool) (working : List ℤ) where
             row = put b.row j k;
             shows = show_starred n b.star (λ i. n) marks k j hk h (show_bare n b.star (λ i. n) marks k bare b.shows);
             matching = none_apart n _ _ _ c (moved n b.star b.row k j hk h (starless n b.star b.row k bare b.matching));
-            zeros = λ i hi. put-case (λ x. x < n → Zero n ok working i x) b.star k j i (λ e s. rw e z) (λ ne. b.zeros i hi);
-            later = λ i l. rw (put-off b.star k j i (omega arith)) (b.later i (omega arith));
-            one = λ p j₀ h₀ z₀. put-case (λ x. x < n) b.star k j 0 (λ e. h) (λ ne. b.one (omega arith) j₀ h₀ z₀);
+            zeros = λ i hi. put_case (λ x. x < n → Zero n ok working i x) b.star k j i (λ e s. rw e z) (λ ne. b.zeros i hi);
+            later = λ i l. rw (put_off b.star k j i (omega arith)) (b.later i (omega arith));
+            one = λ p j₀ h₀ z₀. put_case (λ x. x < n) b.star k j 0 (λ e. h) (λ ne. b.one (omega arith) j₀ h₀ z₀);
           }
 
       none : n ≤ j → Begun (suc k) marks

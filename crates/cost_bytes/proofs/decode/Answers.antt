@@ -1,4 +1,4 @@
--- `decode` leaves the costs of the bytes in front. The loop's invariant: the cells before `cell` are done.
+-- `decode` leaves the costs of the bytes in front.
 use mathlib.Core.Path.{ap, ◌∙◌}
 use native.Mathlib.Omega.{arith}
 use lib.IntN.{pos}

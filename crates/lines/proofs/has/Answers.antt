@@ -1,3 +1,4 @@
+-- `has` meets its contract: the shift and the mask leave the digit of the line.
 use Rattle.lines.proofs.Bits.{has_shr}
 use Rattle.lines.proofs.has.Goals as goal
 

@@ -1,4 +1,4 @@
--- `costs_of` fills its list with what is said. The loop's invariant: the elements before `i` are done.
+-- `costs_of` fills its list with what is said.
 use mathlib.Core.Path.{ap, ◌∙◌}
 use native.Mathlib.Omega.{arith}
 use lib.IntN.{pos}

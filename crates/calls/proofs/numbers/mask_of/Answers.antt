@@ -1,4 +1,4 @@
--- `mask_of` fills its list with what is said. The loop's invariant: the elements before `i` are done.
+-- `mask_of` fills its list with what is said.
 use mathlib.Core.Path.{ap, ◌∙◌}
 use Prim.Native.Nat.{ℕ}
 use native.Mathlib.Omega.{arith}

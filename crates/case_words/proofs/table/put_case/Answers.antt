@@ -7,6 +7,6 @@ pub returns : goal.returns
 unfolding case_lines
 returns c =
     let head : Holds _ _ _ _ _ = record { held = c.put_rows-after_rows.ensures } in
-    let said-rows = c.rows_of.ensures in
-    let said-events = c.events_of.ensures in
-    rw (c.huts_of.ensures, said-rows.0, said-rows.1, said-events.0, said-events.1) at (holds_more head _ c.put_events.ensures).held
+    let said_rows = c.rows_of.ensures in
+    let said_events = c.events_of.ensures in
+    rw (c.huts_of.ensures, said_rows.0, said_rows.1, said_events.0, said_events.1) at (holds_more head _ c.put_events.ensures).held

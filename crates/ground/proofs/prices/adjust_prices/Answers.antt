@@ -11,8 +11,6 @@ use Rattle.ground.proofs.Wide.{back}
 use Rattle.ground.proofs.Adjusting.{lowered_shifted, raised_shifted}
 use Rattle.ground.proofs.prices.adjust_prices.Goals as goal
 
--- ---- places: what was called before, back to the start
-
 -- ---- what each call asks
 
 pub overflow_sub-change : goal.overflow_sub-change

@@ -27,7 +27,7 @@ missed lines change prices₀ prices k h e p = passed_keep (pos 0) (moved lines 
 pub loop-left-init : goal.loop-left-init
 loop-left-init c = walk_begin c.requires.within (passed_none (pos 0) _ _) (missed _ _ _ _)
 
--- ---- a turn: the place of the loop that it is in, and the line that it meets
+-- ---- a turn, and the line that it meets
 
 pub offset_bounds-prices-line : goal.offset_bounds-prices-line
 offset_bounds-prices-line c =

@@ -1,4 +1,4 @@
--- `clear_marks` leaves a list of zeros. The loop's invariant: what is before `place` is 0.
+-- `clear_marks` leaves a list of zeros.
 use mathlib.Core.Path.{refl}
 use borrow.Author.Rules.{rules}
 use native.Mathlib.Omega.{arith}

@@ -1,4 +1,4 @@
--- `step_2` gives the definition's marks. The loop's invariant: the marks are those after `row` rows, and the set holds the columns that have a star.
+-- `step_2` gives the definition's marks.
 use mathlib.Core.Path.{◌≡◌, ap, ◌∙◌}
 use borrow.Author.Rules.{rules}
 use native.Mathlib.Omega.{arith}

@@ -1,4 +1,4 @@
--- `step_3` gives the definition's run. The loop's invariant: the columns of the stars of the rows so far, and how many there are.
+-- `step_3` gives the definition's run.
 use mathlib.Core.Path.{◌∙◌}
 use borrow.Author.Rules.{rules}
 use borrow.Author.Tests.{eq-eqb, ne_eqb}

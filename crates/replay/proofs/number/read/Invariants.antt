@@ -1,3 +1,4 @@
+-- `read` ends: its measure is the number of numbers that are left. Nothing has to hold from turn to turn.
 use Prim.Native.Nat.{◌-◌}
 use Rattle.replay.proofs.number.read.Given as goal
 
