@@ -9,7 +9,7 @@ use native.Mathlib.Decide.{dec_lt}
 use native.Mathlib.Omega.{arith}
 use lib.Dec.{T}
 use lib.IntN.{ℤ, pos}
-use lib.ListN.{length, get_or-eq_default}
+use lib.ListN.{get_or-eq_default}
 use Rattle.lines.specs.Sets.{rest}
 use Rattle.lines.specs.Square.{table}
 use Rattle.lines.specs.Bounds.{Within}
@@ -33,9 +33,9 @@ use Rattle.steps.proofs.Verdicts.{judgement_tells, AcceptedCall, accepted_is}
 use Rattle.steps.proofs.Masks.{mask_flag}
 use Rattle.steps.proofs.Promised.{promised}
 use Rattle.rules.proofs.Rooms.{Room, room_of}
-use Rattle.rules.specs.declared.Verdict.{Verdict}
-use Rattle.rules.specs.declared.Verdict.TheVariants.{Refused, Dead, Accepted}
-use Rattle.rules.specs.View.{view_verdict}
+use Rattle.rules.specs.declared.refusal.Stop.{Stop}
+use Rattle.rules.specs.declared.refusal.Stop.TheVariants.{Refused, DeadRow}
+use Rattle.rules.specs.View.{view_stop}
 use Rattle.ground.specs.declared.run.Next.{Next}
 use Rattle.ground.specs.declared.run.Next.TheVariants.{Step3, Step4, Step5, Step6, Paired, NoPairing, Unfinished}
 use Rattle.ground.specs.View.{view_next}
@@ -143,9 +143,6 @@ module _ (n : ℕ) (costs : List ℤ) (mask : List ℕ) (budget : ℕ) (b : Buff
       let q = table_at 0 (star_in_row n m.marks) n i hi in
       (rw q at (p.pairing.below i hi), rw q at (p.allowed i hi))
 
-  pub working_kept : {before m : Machine} → Came n mask budget before m → length m.working ≡ length b.working
-  working_kept c = c.good.kept.going.shape.working ∙ sym room.working_cells
-
   pub finish_asks : {before m : Machine} → Came n mask budget before m → Finishes n costs m.run.next m.marks b.columns
   finish_asks c = record {
     word = word;
@@ -178,27 +175,26 @@ stop_is t b (R.refused number place) s = refl
 stop_is t b (R.dead row) s = refl
 stop_is t b R.accepted s = absurd (s refl)
 
-stops : (x : Verdict) → x ≢ Accepted → view_verdict x ≢ R.accepted
-stops (Refused number place) s e = let z : ◌≡◌ {A = ℕ} 0 1 = cc in absurd (omega arith)
-stops (Dead row) s e = let z : ◌≡◌ {A = ℕ} 0 1 = cc in absurd (omega arith)
-stops Accepted s e = s refl
+stop_apart : (s : Stop) → view_stop s ≢ R.accepted
+stop_apart (Refused refusal) e = let z : ◌≡◌ {A = ℕ} 0 1 = cc in absurd (omega arith)
+stop_apart (DeadRow row) e = let z : ◌≡◌ {A = ℕ} 0 1 = cc in absurd (omega arith)
 
 -- ---- the verdict of a call
 
 -- a row that was found lies in the square
-pub dead_inside : (n : ℕ) (costs : List ℤ) (mask : List ℕ) (others : Bool) (x : Verdict) → view_verdict x ≡ R.judgement 64 n costs mask others → Inside n (view_verdict x)
-dead_inside n costs mask others x e row f = let d = rw (sym e ∙ f) at (judgement_tells 64 n costs mask others) in (d.1, d.0.most)
+pub dead_inside : (n : ℕ) (costs : List ℤ) (mask : List ℕ) (others : Bool) (s : Stop) → view_stop s ≡ R.judgement 64 n costs mask others → Inside n (view_stop s)
+dead_inside n costs mask others s e row f = let d = rw (sym e ∙ f) at (judgement_tells 64 n costs mask others) in (d.1, d.0.most)
 
-module _ (n : ℕ) (costs : List ℤ) (mask : List ℕ) (budget : ℕ) (b : Buffers) (x : Verdict) (e : view_verdict x ≡ R.judgement 64 n costs mask (R.room (n * n) n b)) where
+module _ (n : ℕ) (costs : List ℤ) (mask : List ℕ) (budget : ℕ) (b : Buffers) where
+  abbrev JudgedAs : R.Verdict → Type 0
+  JudgedAs v = v ≡ R.judgement 64 n costs mask (R.room (n * n) n b)
+
   -- what the judgement found is the verdict of the call
-  verdict_is : R.verdict (task n costs mask budget) 64 b ≡ view_verdict x
+  pub verdict_is : {v : R.Verdict} → JudgedAs v → R.verdict (task n costs mask budget) 64 b ≡ v
   unfolding R.verdict
-  verdict_is = sym e
-
-  pub accepted_verdict : x ≡ Accepted → R.verdict (task n costs mask budget) 64 b ≡ R.accepted
-  accepted_verdict f = verdict_is ∙ ap view_verdict f
+  verdict_is e = sym e
 
   -- a refusal or a dead row
-  pub stopped_promise : {a : Answer} → x ≢ Accepted → a ≡ stop n (view_verdict x) → Promise 64 (task n costs mask budget) b a b
-  stopped_promise other q =
-      promised (record { count = 0; exact = ap (judged (task n costs mask budget) b 0) verdict_is ∙ rw q (stop_is (task n costs mask budget) b (view_verdict x) (stops x other)) })
+  pub stopped_promise : (s : Stop) → JudgedAs (view_stop s) → {a : Answer} → a ≡ stop n (view_stop s) → Promise 64 (task n costs mask budget) b a b
+  stopped_promise s e q =
+      promised (record { count = 0; exact = ap (judged (task n costs mask budget) b 0) (verdict_is e) ∙ rw q (stop_is (task n costs mask budget) b (view_stop s) (stop_apart s)) })

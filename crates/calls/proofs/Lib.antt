@@ -1,2 +1,1 @@
-mod Narrow
 mod Saying

@@ -3,19 +3,20 @@
 #![tactic(auto)]
 
 mod numbers;
-mod same;
 
 ghost use Rattle.std.specs.Prelude.{◌≡◌, true};
 ghost use Rattle.calls.specs.Kept.{Fits, Kept};
+ghost use Rattle.calls.specs.Numbers.{SaysAnswer};
 
+use munkres::BySteps;
 pub use numbers::{
     ALL, ANSWER, CELLS, COLUMN_PRICES, COLUMNS, COSTS, LINES, MARKS, MASK, Numbers, ROW_PRICES,
-    WORKING, put,
+    WORKING, put, says,
 };
-use numbers::{costs_of, mask_of};
-pub use same::{are_bytes, are_costs};
-use same::{are_columns, are_prices, are_values, is_answer};
-use solvers::solve_by;
+use quick::ByKeys;
+use solvers::{Steps, solve_assignment};
+use std::array;
+use steps::Answer;
 
 // How long each list is.
 #[derive(Clone, Copy)]
@@ -48,53 +49,68 @@ pub struct Call {
     pub marks_said: bool,
 }
 
-// Costs and mask must be as they were lent.
-fn is_kept_by(by_steps: bool, call: Call, said: &Numbers) -> bool
+fn is_answer(said: &Numbers, answer: Answer) -> bool
+    ensures { result ≡ true → SaysAnswer said.now answer }
+{
+    let numbers = [
+        i64::from(answer.number),
+        (answer.place as u64).cast_signed(),
+        i64::from(answer.adjustments),
+        i64::from(answer.primes),
+        i64::from(answer.augmentations),
+        answer.total,
+        answer.block_rows.cast_signed(),
+        answer.block_columns.cast_signed(),
+    ];
+    says(said, ANSWER, &numbers)
+}
+
+// Costs and mask must be as they were lent. What is said of them and does not fit their types is lent as 0.
+fn is_kept_by<S: Steps>(call: Call, said: &Numbers) -> bool
     requires { Fits call.lengths }
     ensures { result ≡ true → Kept call said.now }
 {
     let lengths = call.lengths;
     let before = call.before;
-    let costs_length = lengths.costs;
-    let mask_length = lengths.mask;
-    let working_length = lengths.working;
-    let marks_length = lengths.marks;
-    let columns_length = lengths.columns;
-    let row_length = lengths.row_prices;
-    let column_length = lengths.column_prices;
-    let costs = costs_of(said, costs_length);
-    let mask = mask_of(said, mask_length);
+    let costs: [i32; CELLS] = array::from_fn(|i| i32::try_from(said[COSTS + i]).unwrap_or(0));
+    let mask: [u8; CELLS] = array::from_fn(|i| u8::try_from(said[MASK + i]).unwrap_or(0));
+    let costs = &costs[..lengths.costs];
+    let mask = &mask[..lengths.mask];
     let mut working = [before.working; CELLS];
+    let working = &mut working[..lengths.working];
     let mut marks = [before.mark; CELLS];
+    let marks = &mut marks[..lengths.marks];
     let mut columns = [before.column; LINES];
+    let columns = &mut columns[..lengths.columns];
     let mut row_prices = [before.price; LINES];
+    let row_prices = &mut row_prices[..lengths.row_prices];
     let mut column_prices = [before.price; LINES];
-    let answer = solve_by(
-        by_steps,
+    let column_prices = &mut column_prices[..lengths.column_prices];
+    let answer = solve_assignment::<S>(
         call.n,
-        &costs[..costs_length],
-        &mask[..mask_length],
+        costs,
+        mask,
         call.budget,
-        &mut working[..working_length],
-        &mut marks[..marks_length],
-        &mut columns[..columns_length],
-        &mut row_prices[..row_length],
-        &mut column_prices[..column_length],
+        working,
+        marks,
+        columns,
+        row_prices,
+        column_prices,
     );
     is_answer(said, answer)
-        & are_costs(said, COSTS, &costs, costs_length)
-        & are_bytes(said, MASK, &mask, mask_length)
-        & are_values(said, WORKING, &working, working_length)
-        & (!call.marks_said | are_bytes(said, MARKS, &marks, marks_length))
-        & are_columns(said, COLUMNS, &columns, columns_length)
-        & are_prices(said, ROW_PRICES, &row_prices, row_length)
-        & are_prices(said, COLUMN_PRICES, &column_prices, column_length)
+        & says(said, COSTS, costs)
+        & says(said, MASK, mask)
+        & says(said, WORKING, working)
+        & (!call.marks_said | says(said, MARKS, marks))
+        & says(said, COLUMNS, columns)
+        & says(said, ROW_PRICES, row_prices)
+        & says(said, COLUMN_PRICES, column_prices)
 }
 
-// By the port and by the quick solver.
+// By both solvers.
 pub fn is_kept(call: Call, said: &Numbers) -> bool
     requires { Fits call.lengths }
     ensures { result ≡ true → Kept call said.now }
 {
-    is_kept_by(true, call, said) & is_kept_by(false, call, said)
+    is_kept_by::<BySteps>(call, said) & is_kept_by::<ByKeys>(call, said)
 }

@@ -5,16 +5,15 @@ use mathlib.Core.List.{List}
 use Prim.Native.Nat.{ℕ, ◌+◌, ◌≤◌, ◌<◌}
 use native.Mathlib.Omega.{arith}
 use lib.ListN.{length, take, drop}
-use Rattle.records.specs.declared.Found.{Found}
-use Rattle.records.specs.declared.Found.TheVariants.{Body, Cut, Unknown}
-use Rattle.storm_case.specs.declared.Hut.TheVariants.{At, Absent}
+use Rattle.std.specs.Prelude.{Some, None, Result, Ok, Err}
+use Rattle.records.specs.declared.Missing.{Missing}
 use Rattle.records.specs.Records.{found, part, body}
 use Rattle.records.proofs.RecordLaws.{found_fits}
 use Rattle.case_face.specs.declared.Record.{Record}
 use Rattle.case_face.specs.Case.{hut_number, record_at}
 
 -- a hut has 16 bits
-pub absent_apart : (hut : ℕ) → hut < 65_536 → hut_number (At hut) ≢ hut_number Absent
+pub absent_apart : (hut : ℕ) → hut < 65_536 → hut_number (Some hut) ≢ hut_number None
 unfolding hut_number
 absent_apart hut h e = omega arith
 
@@ -26,16 +25,14 @@ module _ (file : List ℕ) (at : ℕ) where
   unfolding record_at body part
   part_is_body = go (found file at)
     where
-      go : (f : Found) → take (record_at at f).length (drop (record_at at f).start file) ≡ part file at f
-      go (Body n) = refl
-      go Cut = refl
-      go Unknown = refl
+      go : (f : Result ℕ Missing) → take (record_at at f).length (drop (record_at at f).start file) ≡ part file at f
+      go (Ok n) = refl
+      go (Err missing) = refl
 
   pub part_inside : record_there.start + record_there.length ≤ length file
   unfolding record_at
   part_inside = go (found file at) refl
     where
-      go : (f : Found) → f ≡ found file at → (record_at at f).start + (record_at at f).length ≤ length file
-      go (Body n) e = found_fits file at e refl
-      go Cut e = omega arith
-      go Unknown e = omega arith
+      go : (f : Result ℕ Missing) → f ≡ found file at → (record_at at f).start + (record_at at f).length ≤ length file
+      go (Ok n) e = found_fits file at e refl
+      go (Err missing) e = omega arith

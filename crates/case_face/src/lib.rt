@@ -6,9 +6,9 @@ ghost use Rattle.storm_case.specs.Case.{hut};
 ghost use Rattle.records.specs.Records.{found};
 ghost use Rattle.case_face.specs.Case.{hut_number, record_at, huts_beside};
 
-use storm_case::{Found, Hut};
+use storm_case::Rule;
 
-// Where a record's body is, as a part of the file.
+// Where a record's body is, as a part of the file, for C: 0, or the number of what is missing.
 #[repr(C)]
 #[derive(Drop)]
 pub struct Record {
@@ -17,14 +17,11 @@ pub struct Record {
     pub length: usize,
 }
 
-// The hut of a row: `storm_case::hut_of`. A hut has 16 bits, so absent is the first number above them.
+// The hut of a row: `storm_case::hut_of`. A hut has 16 bits, so none is the first number above them.
 pub fn hut_number(file: &[u8], row: usize) -> u32
     ensures { result ≡ hut_number (hut file.now row) }
 {
-    match storm_case::hut_of(file, row) {
-        Hut::At(hut) => hut as u32,
-        Hut::Absent => 65_536,
-    }
+    storm_case::hut_of(file, row).map_or(65_536, u32::from)
 }
 
 // The body of the record at an offset, as a part of the file: `storm_case::find`, with where the body starts.
@@ -32,21 +29,13 @@ pub fn record_at(file: &[u8], at: usize) -> Record
     ensures { result ≡ record_at at (found file.now at) }
 {
     match storm_case::find(file, at) {
-        Found::Body(length) => {
-            let start = at + 1;
-            Record {
-                number: 0,
-                start,
-                length,
-            }
-        }
-        Found::Cut => Record {
-            number: 21,
-            start: 0,
-            length: 0,
+        Ok(length) => Record {
+            number: 0,
+            start: at + 1,
+            length,
         },
-        Found::Unknown => Record {
-            number: 22,
+        Err(missing) => Record {
+            number: Rule::from(missing).number(),
             start: 0,
             length: 0,
         },
@@ -57,8 +46,7 @@ pub fn record_at(file: &[u8], at: usize) -> Record
 pub fn put_huts(file: &[u8], number: u32, huts: &mut [u16])
     ensures { huts.new ≡ huts_beside file.now number huts.old }
 {
-    if number == 20 {
-        return;
+    if number != Rule::Room.number() {
+        storm_case::huts_of(file, huts);
     }
-    storm_case::huts_of(file, huts);
 }

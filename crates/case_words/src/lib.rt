@@ -1,4 +1,4 @@
-// The case in words, put into a lent buffer: a line for each row and each event, and for each of them that fits none of the others.
+// The case in words, put into a text: a line for each row and each event, and for each of them that fits none of the others.
 #![tactic(auto)]
 
 mod line;

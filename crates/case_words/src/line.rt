@@ -1,31 +1,25 @@
 // The line of a row and that of an event.
-ghost use Rattle.std.specs.Prelude.{◌≡◌};
-ghost use Rattle.text.specs.Text.{put};
+ghost use Rattle.text.specs.Puts.{Puts};
 ghost use Rattle.case_words.specs.Case.{row_line, event_line};
 
-pub(crate) fn put_row(
-    out: &mut [u8],
-    used: usize,
-    row: usize,
-    hut: u16,
-    area: u16,
-    clock: u32,
-) -> usize
-    ensures { (result, out.new) ≡ put out.old used (row_line row hut area clock) }
+use text::Text;
+
+pub(crate) fn put_row(text: &mut Text, row: usize, hut: u16, area: u16, clock: u32)
+    ensures { Puts text.old (row_line row hut area clock) text.new }
 {
-    let after_row = text::put_decimal_right(out, used, 5, row as u64);
-    let after_hut = text::put_decimal_right(out, after_row, 7, hut as u64);
-    let after_area = text::put_decimal_right(out, after_hut, 7, area as u64);
-    let after_clock = text::put_decimal_right(out, after_area, 12, clock as u64);
-    text::put(out, after_clock, b"\n")
+    text.put_right(5, row);
+    text.put_right(7, hut);
+    text.put_right(7, area);
+    text.put_right(12, clock);
+    text.put(b"\n");
 }
 
 // Its area and clock stand below those of the rows.
-pub(crate) fn put_event(out: &mut [u8], used: usize, event: usize, area: u16, clock: u32) -> usize
-    ensures { (result, out.new) ≡ put out.old used (event_line event area clock) }
+pub(crate) fn put_event(text: &mut Text, event: usize, area: u16, clock: u32)
+    ensures { Puts text.old (event_line event area clock) text.new }
 {
-    let after_event = text::put_decimal_right(out, used, 5, event as u64);
-    let after_area = text::put_decimal_right(out, after_event, 14, area as u64);
-    let after_clock = text::put_decimal_right(out, after_area, 12, clock as u64);
-    text::put(out, after_clock, b"\n")
+    text.put_right(5, event);
+    text.put_right(14, area);
+    text.put_right(12, clock);
+    text.put(b"\n");
 }

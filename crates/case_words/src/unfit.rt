@@ -1,115 +1,74 @@
 // The rows and the events that may be paired with none.
-ghost use Rattle.std.specs.Prelude.{◌≡◌, ◌≤◌, ◌<◌};
-ghost use Rattle.text.specs.Text.{put};
-ghost use Rattle.entries.specs.Places.{InList};
-ghost use Rattle.case_words.specs.Unfit.{may_pair, row_fits, event_fits, unfit_row, unfit_event, unfit_rows, unfit_events, unfit};
+ghost use Rattle.std.specs.Prelude.{◌≡◌, ◌<◌};
+ghost use Rattle.std.specs.List.{list_any, range_with_len};
+ghost use Rattle.text.specs.Puts.{Puts};
+ghost use Rattle.case_words.specs.Unfit.{may_pair, unfit_row, unfit_event, unfit_rows, unfit_events, unfit};
 
-fn may_pair(n: usize, mask: &[u8; 4096], row: usize, event: usize) -> bool
-    requires { InList n row event }
-    ensures { result ≡ may_pair n mask.now row event }
+use entries::Solved;
+use text::Text;
+
+#[tactic(auto, unfolding(crate::specs::Unfit::may_pair))]
+fn row_fits(solved: &Solved, row: usize) -> bool
+    requires { row < solved.now.n }
+    ensures { result ≡ list_any (λ event. may_pair solved.now.n solved.now.mask row event) (range_with_len 0 solved.now.n) }
 {
-    mask[row * n + event] == 1
+    (0..solved.n).any(|event| solved.may_pair(row, event))
 }
 
-fn row_fits(n: usize, mask: &[u8; 4096], row: usize) -> bool
-    requires { (n ≤ 64) × (row < n) }
-    ensures { result ≡ row_fits n mask.now row }
+#[tactic(auto, unfolding(crate::specs::Unfit::may_pair))]
+fn event_fits(solved: &Solved, event: usize) -> bool
+    requires { event < solved.now.n }
+    ensures { result ≡ list_any (λ row. may_pair solved.now.n solved.now.mask row event) (range_with_len 0 solved.now.n) }
 {
-    let mut event = 0;
-    while event < n {
-        if may_pair(n, mask, row, event) {
-            return true;
-        }
-        event += 1;
-    }
-    false
-}
-
-fn event_fits(n: usize, mask: &[u8; 4096], event: usize) -> bool
-    requires { (n ≤ 64) × (event < n) }
-    ensures { result ≡ event_fits n mask.now event }
-{
-    let mut row = 0;
-    while row < n {
-        if may_pair(n, mask, row, event) {
-            return true;
-        }
-        row += 1;
-    }
-    false
+    (0..solved.n).any(|row| solved.may_pair(row, event))
 }
 
 // As `row 3 (hut 12) fits no event`, unless it fits one.
-fn put_unfit_row(out: &mut [u8], used: usize, fits: bool, row: usize, hut: u16) -> usize
-    ensures { (result, out.new) ≡ put out.old used (unfit_row fits row hut) }
+fn put_unfit_row(text: &mut Text, fits: bool, row: usize, hut: u16)
+    ensures { Puts text.old (unfit_row fits row hut) text.new }
 {
     if fits {
-        return text::put(out, used, b"");
+        return;
     }
-    let after_word = text::put(out, used, b"row ");
-    let after_row = text::put_decimal(out, after_word, row as u64);
-    let after_open = text::put(out, after_row, b" (hut ");
-    let after_hut = text::put_decimal(out, after_open, hut as u64);
-    text::put(out, after_hut, b") fits no event\n")
+    text.put(b"row ");
+    text.put_number(row);
+    text.put(b" (hut ");
+    text.put_number(hut);
+    text.put(b") fits no event\n");
 }
 
 // As `event 2 fits no fragment`, unless it fits one.
-fn put_unfit_event(out: &mut [u8], used: usize, fits: bool, event: usize) -> usize
-    ensures { (result, out.new) ≡ put out.old used (unfit_event fits event) }
+fn put_unfit_event(text: &mut Text, fits: bool, event: usize)
+    ensures { Puts text.old (unfit_event fits event) text.new }
 {
     if fits {
-        return text::put(out, used, b"");
+        return;
     }
-    let after_word = text::put(out, used, b"event ");
-    let after_event = text::put_decimal(out, after_word, event as u64);
-    text::put(out, after_event, b" fits no fragment\n")
+    text.put(b"event ");
+    text.put_number(event);
+    text.put(b" fits no fragment\n");
 }
 
-fn put_unfit_rows(
-    n: usize,
-    mask: &[u8; 4096],
-    huts: &[u16; 64],
-    out: &mut [u8],
-    used: usize,
-) -> usize
-    requires { n ≤ 64 }
-    ensures { (result, out.new) ≡ put out.old used (unfit_rows n mask.now huts.now) }
+fn put_unfit_rows(text: &mut Text, solved: &Solved)
+    ensures { Puts text.old (unfit_rows solved.now.n solved.now.mask solved.now.huts) text.new }
 {
-    let mut at = text::put(out, used, b"");
-    let mut row = 0;
-    while row < n {
-        let fits = row_fits(n, mask, row);
-        at = put_unfit_row(out, at, fits, row, huts[row]);
-        row += 1;
+    for row in 0..solved.n {
+        put_unfit_row(text, row_fits(solved, row), row, solved.huts[row]);
     }
-    at
 }
 
-fn put_unfit_events(n: usize, mask: &[u8; 4096], out: &mut [u8], used: usize) -> usize
-    requires { n ≤ 64 }
-    ensures { (result, out.new) ≡ put out.old used (unfit_events n mask.now) }
+fn put_unfit_events(text: &mut Text, solved: &Solved)
+    ensures { Puts text.old (unfit_events solved.now.n solved.now.mask) text.new }
 {
-    let mut at = text::put(out, used, b"");
-    let mut event = 0;
-    while event < n {
-        let fits = event_fits(n, mask, event);
-        at = put_unfit_event(out, at, fits, event);
-        event += 1;
+    for event in 0..solved.n {
+        put_unfit_event(text, event_fits(solved, event), event);
     }
-    at
 }
 
 // Nothing, where each row fits an event and each event a row.
-pub fn put_unfit(
-    n: usize,
-    mask: &[u8; 4096],
-    huts: &[u16; 64],
-    out: &mut [u8],
-    used: usize,
-) -> usize
-    requires { n ≤ 64 }
-    ensures { (result, out.new) ≡ put out.old used (unfit n mask.now huts.now) }
+pub fn put_unfit(text: &mut Text, solved: &Solved)
+    ensures { Puts text.old (unfit solved.now.n solved.now.mask solved.now.huts) text.new }
 {
-    let after_rows = put_unfit_rows(n, mask, huts, out, used);
-    put_unfit_events(n, mask, out, after_rows)
+    put_unfit_rows(text, solved);
+    put_unfit_events(text, solved);
 }

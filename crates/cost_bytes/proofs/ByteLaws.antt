@@ -1,18 +1,19 @@
--- Laws of costs as bytes: what the code's arithmetic gives, which costs are read, and that the call's outcome does not ask for more.
+-- Laws of costs as bytes: std's reading of four bytes is the definition's, which costs are read, and that the call's outcome does not ask for more.
 use mathlib.Core.Path.{◌≡◌, sym, ap, ◌∙◌}
 use mathlib.Core.Logic.{◌≢◌, dite}
-use mathlib.Core.List.{List}
-use Prim.Native.Nat.{ℕ, ◌+◌, ◌*◌, ◌/◌, ◌%◌, ◌≤◌, ◌<◌}
+use mathlib.Core.List.{List, [], ◌∷◌}
+use Prim.Native.Nat.{ℕ, suc, ◌-◌, ◌*◌, ◌/◌, ◌%◌, ◌≤◌, ◌<◌}
 use native.Mathlib.Nat.{mul-le-mul}
 use native.Mathlib.Decide.{ℕ_discrete, dec_lt}
 use native.Mathlib.Omega.{arith}
 use borrow.Author.Tests.{lt-ltb, le-ltb, eq-eqb, ne_eqb}
-use lib.IntN.{ℤ, pos, ◌-ℤ◌}
+use lib.IntN.{ℤ, pos, negsuc, ◌-ℤ◌}
 use lib.ListN.{length, take}
 use lib.Seq.{length-take-le, get_or-take, ext_get_or}
-use mir.Syntax.{w32, w64}
-use mir.Val.{SFits, to_z, of_z}
-use mir.Facts.{to_z_pos, to_z-of_z}
+use mir.Syntax.{w32}
+use mir.Val.{to_z}
+use mir.Facts.{to_z_pos, to_z-neg}
+use Rattle.std.specs.Int.{from_le_bytes}
 use Rattle.lines.specs.Square.{table}
 use Rattle.lines.proofs.Signed.{signed, minus_parts}
 use Rattle.lines.proofs.Loops.{Passed}
@@ -24,7 +25,7 @@ use Rattle.steps.specs.Outcome.{judged, Outcome}
 use Rattle.steps.specs.Promise.{Promise}
 use Rattle.steps.proofs.Promised.{promised}
 use Rattle.rules.proofs.JudgeLaws.{rule_1, past_1, rule_2, past_2, rule_3}
-use Rattle.cost_bytes.specs.Bytes.{twos_complement, cost_of, decoded, readable}
+use Rattle.cost_bytes.specs.Bytes.{little_endian, twos_complement, cost_of, decoded, readable}
 
 -- ---- two's complement
 
@@ -36,15 +37,18 @@ pub high_half : (x : ℕ) → 2_147_483_648 ≤ x → twos_complement x ≡ pos 
 unfolding twos_complement
 high_half x h = rw (le-ltb x 2_147_483_648 h)
 
--- the code subtracts in 64 bits: that fits and reads back; the difference fits 32 bits again where it is small
-pub less_fits : (x k : ℕ) → x < 4_294_967_296 → k ≤ 4_294_967_296 → SFits w64 (to_z w64 x -ℤ pos k)
-less_fits x k h l = rw (to_z_pos w64 {n = x} (omega arith)) (omega (signed, minus_parts (pos x) (pos k)))
+-- which is how std reads 32 bits as a signed number
+pub signed_bits : (x : ℕ) → x < 4_294_967_296 → to_z w32 x ≡ twos_complement x
+signed_bits x h =
+    dite (dec_lt x 2_147_483_648) (λ l. to_z_pos w32 l ∙ sym (low_half x l)) (λ l.
+    let k = 4_294_967_296 - suc x in
+    let back : 4_294_967_296 - suc k ≡ x = omega arith in
+    let below : pos x -ℤ pos 4_294_967_296 ≡ negsuc k = omega (signed, minus_parts (pos x) (pos 4_294_967_296)) in
+    ap (to_z w32) (sym back) ∙ to_z-neg w32 k (omega arith) ∙ sym (high_half x (omega arith) ∙ below))
 
-pub less_back : (x k : ℕ) → x < 4_294_967_296 → k ≤ 4_294_967_296 → to_z w64 (of_z w64 (to_z w64 x -ℤ pos k)) ≡ pos x -ℤ pos k
-less_back x k h l = to_z-of_z (less_fits x k h l) ∙ ap (λ z. z -ℤ pos k) (to_z_pos w64 {n = x} (omega arith))
-
-pub narrow_fits : (x k : ℕ) → x < k + 2_147_483_648 → k ≤ x + 2_147_483_648 → SFits w32 (pos x -ℤ pos k)
-narrow_fits x k h l = omega (signed, minus_parts (pos x) (pos k))
+-- four bytes as std puts them together
+pub four_bytes : (b0 b1 b2 b3 : ℕ) → from_le_bytes w32 (b0 ∷ b1 ∷ b2 ∷ b3 ∷ []) ≡ little_endian b0 b1 b2 b3
+four_bytes b0 b1 b2 b3 = omega arith
 
 -- ---- a list filled in front
 

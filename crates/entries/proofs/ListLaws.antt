@@ -3,8 +3,9 @@ use mathlib.Core.Path.{◌≡◌, ap}
 use mathlib.Core.List.{List, ◌++◌}
 use Prim.Native.Nat.{ℕ, ◌+◌}
 use native.Mathlib.Numerals.{add-one}
-use Rattle.text.specs.Text.{put}
-use Rattle.text.proofs.PutLaws.{Holds, holds_more}
+use Rattle.text.specs.Puts.{Puts}
+use Rattle.text.specs.declared.Text.{Text}
+use Rattle.text.proofs.PutLaws.{◌▸◌}
 use Rattle.entries.specs.Lines.{each_line}
 
 -- one more line, at the code's `i + 1`
@@ -13,6 +14,5 @@ unfolding each_line
 line_more line i = ap (each_line line) (add-one i)
 
 -- the next line was put behind those before it
-pub holds_line : (line : ℕ → List ℕ) (i : ℕ) {before : List ℕ} {used : ℕ} {r : ℕ} {out : List ℕ} → Holds before used (each_line line i) r out
-    → {r' : ℕ} {out' : List ℕ} → (r', out') ≡ put out r (line i) → Holds before used (each_line line (i + 1)) r' out'
-holds_line line i h e = rw (line_more line i) (holds_more h (line i) e)
+pub puts_line : (line : ℕ → List ℕ) (i : ℕ) {a b c : Text} → Puts a (each_line line i) b → Puts b (line i) c → Puts a (each_line line (i + 1)) c
+puts_line line i before next = rw (line_more line i) (before ▸ next)

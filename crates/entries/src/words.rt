@@ -1,43 +1,43 @@
 // Words and numbers, put one after another.
-ghost use Rattle.std.specs.Prelude.{◌≡◌};
-ghost use Rattle.text.specs.Text.{put};
+ghost use Rattle.text.specs.Puts.{Puts};
 ghost use Rattle.entries.specs.Lines.{plural, counted, counts, size};
 
+use text::Text;
+
 // An `s` behind more things than one, or none.
-fn put_plural(out: &mut [u8], used: usize, count: usize) -> usize
-    ensures { (result, out.new) ≡ put out.old used (plural count) }
+fn put_plural(text: &mut Text, count: usize)
+    ensures { Puts text.old (plural count) text.new }
 {
-    if count == 1 {
-        return text::put(out, used, b"");
+    if count != 1 {
+        text.put(b"s");
     }
-    text::put(out, used, b"s")
 }
 
 // As `1 event` and `2 events`.
-pub fn put_counted(out: &mut [u8], used: usize, count: usize, thing: &[u8]) -> usize
-    ensures { (result, out.new) ≡ put out.old used (counted count thing.now) }
+pub fn put_counted(text: &mut Text, count: usize, thing: &[u8])
+    ensures { Puts text.old (counted count thing.now) text.new }
 {
-    let after_count = text::put_decimal(out, used, count as u64);
-    let after_blank = text::put(out, after_count, b" ");
-    let after_thing = text::put(out, after_blank, thing);
-    put_plural(out, after_thing, count)
+    text.put_number(count);
+    text.put(b" ");
+    text.put(thing);
+    put_plural(text, count);
 }
 
 // As `3 fragments, 3 events`.
-fn put_counts(out: &mut [u8], used: usize, n: usize) -> usize
-    ensures { (result, out.new) ≡ put out.old used (counts n) }
+fn put_counts(text: &mut Text, n: usize)
+    ensures { Puts text.old (counts n) text.new }
 {
-    let after_rows = put_counted(out, used, n, b"fragment");
-    let after_comma = text::put(out, after_rows, b", ");
-    put_counted(out, after_comma, n, b"event")
+    put_counted(text, n, b"fragment");
+    text.put(b", ");
+    put_counted(text, n, b"event");
 }
 
 // How large a case is, and its window.
-pub fn put_size(out: &mut [u8], used: usize, n: usize, window: u32) -> usize
-    ensures { (result, out.new) ≡ put out.old used (size n window) }
+pub fn put_size(text: &mut Text, n: usize, window: u32)
+    ensures { Puts text.old (size n window) text.new }
 {
-    let after_counts = put_counts(out, used, n);
-    let after_words = text::put(out, after_counts, b", clocks at most ");
-    let after_window = text::put_decimal(out, after_words, window as u64);
-    text::put(out, after_window, b" ms apart")
+    put_counts(text, n);
+    text.put(b", clocks at most ");
+    text.put_number(window);
+    text.put(b" ms apart");
 }

@@ -19,6 +19,14 @@ pub enum Next {
     Unfinished,
 }
 
+impl Next {
+    pub fn is_over(self) -> bool
+        ensures { result ≡ over (view_next self) }
+    {
+        matches!(self, Next::Paired | Next::NoPairing | Next::Unfinished)
+    }
+}
+
 // The covered rows and columns, the three counts, and what is next.
 #[derive(Clone, Copy)]
 pub struct Run {
@@ -30,115 +38,85 @@ pub struct Run {
     pub next: Next,
 }
 
-// Nothing covered, nothing counted, and step 3 next.
-pub fn begun() -> Run
-    ensures { view result ≡ no_run }
-{
-    Run {
-        rows: 0,
-        columns: 0,
-        adjustments: 0,
-        primes: 0,
-        augmentations: 0,
-        next: Next::Step3,
+impl Run {
+    // Nothing covered, nothing counted, and step 3 next.
+    pub fn begun() -> Run
+        ensures { view result ≡ no_run }
+    {
+        Run {
+            rows: 0,
+            columns: 0,
+            adjustments: 0,
+            primes: 0,
+            augmentations: 0,
+            next: Next::Step3,
+        }
     }
-}
 
-pub fn to(run: Run, next: Next) -> Run
-    ensures { view result ≡ steps_to (view_next next) (view run) }
-{
-    Run {
-        rows: run.rows,
-        columns: run.columns,
-        adjustments: run.adjustments,
-        primes: run.primes,
-        augmentations: run.augmentations,
-        next,
+    pub fn to(self, next: Next) -> Run
+        ensures { view result ≡ steps_to (view_next next) (view self) }
+    {
+        Run { next, ..self }
     }
-}
 
-// Step 3: these columns are covered.
-pub fn crossing(run: Run, columns: u64, next: Next) -> Run
-    ensures { view result ≡ run_with run.rows columns run.adjustments run.primes run.augmentations (view_next next) }
-{
-    Run {
-        rows: run.rows,
-        columns,
-        adjustments: run.adjustments,
-        primes: run.primes,
-        augmentations: run.augmentations,
-        next,
+    // Step 3: these columns are covered.
+    pub fn crossing(self, columns: u64, next: Next) -> Run
+        ensures { view result ≡ run_with self.rows columns self.adjustments self.primes self.augmentations (view_next next) }
+    {
+        Run {
+            columns,
+            next,
+            ..self
+        }
     }
-}
 
-// Step 4, where the prime's row has a star: the row is covered, and the star's column uncovered.
-pub fn covering(run: Run, row: usize, star: usize) -> Run
-    requires { Covers row star run.primes }
-    ensures { view result ≡ steps_covering row star (view run) }
-{
-    Run {
-        rows: sets::cover(run.rows, row),
-        columns: sets::uncover(run.columns, star),
-        adjustments: run.adjustments,
-        primes: run.primes + 1,
-        augmentations: run.augmentations,
-        next: Next::Step4,
+    // Step 4, where the prime's row has a star: the row is covered, and the star's column uncovered.
+    pub fn covering(self, row: usize, star: usize) -> Run
+        requires { Covers row star self.primes }
+        ensures { view result ≡ steps_covering row star (view self) }
+    {
+        Run {
+            rows: sets::cover(self.rows, row),
+            columns: sets::uncover(self.columns, star),
+            primes: self.primes + 1,
+            next: Next::Step4,
+            ..self
+        }
     }
-}
 
-// And where it has none.
-pub fn reaching(run: Run, row: usize, column: usize) -> Run
-    requires { run.primes + 1 < 2 ^ 32 }
-    ensures { view result ≡ steps_reaching row column (view run) }
-{
-    Run {
-        rows: run.rows,
-        columns: run.columns,
-        adjustments: run.adjustments,
-        primes: run.primes + 1,
-        augmentations: run.augmentations,
-        next: Next::Step5(row, column),
+    // And where it has none.
+    pub fn reaching(self, row: usize, column: usize) -> Run
+        requires { self.primes + 1 < 2 ^ 32 }
+        ensures { view result ≡ steps_reaching row column (view self) }
+    {
+        Run {
+            primes: self.primes + 1,
+            next: Next::Step5(row, column),
+            ..self
+        }
     }
-}
 
-pub fn augmenting(run: Run) -> Run
-    requires { run.augmentations + 1 < 2 ^ 32 }
-    ensures { view result ≡ steps_augmenting (view run) }
-{
-    Run {
-        rows: 0,
-        columns: 0,
-        adjustments: run.adjustments,
-        primes: run.primes,
-        augmentations: run.augmentations + 1,
-        next: Next::Step3,
+    pub fn augmenting(self) -> Run
+        requires { self.augmentations + 1 < 2 ^ 32 }
+        ensures { view result ≡ steps_augmenting (view self) }
+    {
+        Run {
+            rows: 0,
+            columns: 0,
+            augmentations: self.augmentations + 1,
+            next: Next::Step3,
+            ..self
+        }
     }
-}
 
-pub fn adjusting(run: Run) -> Run
-    requires { run.adjustments + 1 < 2 ^ 32 }
-    ensures { view result ≡ steps_adjusting (view run) }
-{
-    Run {
-        rows: run.rows,
-        columns: run.columns,
-        adjustments: run.adjustments + 1,
-        primes: run.primes,
-        augmentations: run.augmentations,
-        next: Next::Step4,
-    }
-}
-
-pub fn is_over(next: Next) -> bool
-    ensures { result ≡ over (view_next next) }
-{
-    match next {
-        Next::Step3 => false,
-        Next::Step4 => false,
-        Next::Step5(_, _) => false,
-        Next::Step6 => false,
-        Next::Paired => true,
-        Next::NoPairing => true,
-        Next::Unfinished => true,
+    pub fn adjusting(self) -> Run
+        requires { self.adjustments + 1 < 2 ^ 32 }
+        ensures { view result ≡ steps_adjusting (view self) }
+    {
+        Run {
+            adjustments: self.adjustments + 1,
+            next: Next::Step4,
+            ..self
+        }
     }
 }

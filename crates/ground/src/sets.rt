@@ -1,6 +1,8 @@
 // A set of rows or of columns: one 64-bit word, bit i for line i.
 ghost use Rattle.std.specs.Prelude.{◌≡◌, cond, ◌≢◌, ◌%◌, ◌^◌, ◌<◌};
+ghost use Rattle.std.specs.Iterator.{at_most};
 ghost use Rattle.lines.specs.First.{first};
+ghost use Rattle.lines.specs.Walk.{Step};
 ghost use Rattle.lines.specs.Sets.{has, with, without, all as all_below, rest};
 ghost use Rattle.ground.specs.Square.{InWord};
 
@@ -23,7 +25,7 @@ pub fn all_lines(n: usize) -> u64
     requires { InWord n }
     ensures { result ≡ all_below n }
 {
-    0xffff_ffff_ffff_ffff >> (64 - n)
+    u64::MAX >> (64 - n)
 }
 
 // The lines below n that are not covered.
@@ -46,13 +48,13 @@ pub fn lines_alike(n: usize, lines: u64, covered: bool) -> u64
     }
 }
 
-// The searches of steps 4 and 6 walk over the uncovered lines by the next two functions: a test of every line is a branch seldom foretold.
+// ---- the members of a set, from the lowest upwards: a test of every line is a branch seldom foretold
 
 // The lowest line of a set; 64 if it is empty.
 pub fn lowest_line(lines: u64) -> usize
     ensures { result ≡ first (has lines) 64 }
 {
-    u64::trailing_zeros(lines) as usize
+    lines.trailing_zeros() as usize
 }
 
 // A set without its lowest line.
@@ -61,4 +63,33 @@ pub fn without_lowest(lines: u64) -> u64
     ensures { result ≡ without lines (first (has lines) 64) }
 {
     lines & (lines - 1)
+}
+
+// The members that are still to be met.
+#[derive(Drop)]
+pub struct Lines {
+    left: u64,
+}
+
+pub fn members(lines: u64) -> Lines
+    ensures { result.left ≡ lines }
+{
+    Lines { left: lines }
+}
+
+impl Iterator for Lines {
+    type Item = usize;
+
+    ghost next_gives = { λ before met after. Step before.left met after.left };
+
+    ghost remaining = { λ lines. at_most lines.left };
+
+    fn next(&mut self) -> Option<usize> {
+        if self.left == 0 {
+            return None;
+        }
+        let line = lowest_line(self.left);
+        self.left = without_lowest(self.left);
+        Some(line)
+    }
 }

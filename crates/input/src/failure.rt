@@ -9,12 +9,9 @@ use std::io::Write;
 fn words_end(text: &[u8]) -> usize
     ensures { result ≤ length text.now }
 {
-    for at in 0..text.len() {
-        if text[at] == 0 || text[at..].starts_with(b" (os error ") {
-            return at;
-        }
-    }
-    text.len()
+    (0..text.len())
+        .find(|&at| text[at] == 0 || text[at..].starts_with(b" (os error "))
+        .unwrap_or(text.len())
 }
 
 // Says what failed and why, as `valley: standard input: Is a directory`.

@@ -9,25 +9,20 @@ ghost use Rattle.input.specs.Within.{Within, Given};
 pub use failure::fail;
 use std::io;
 
-// So many bytes at the front of the buffer, or a read that failed, and why.
-#[derive(Drop)]
-pub enum Input {
-    Read(usize),
-    Failed(io::Error),
-}
-
-// Until the input ends or the buffer is full. Also a read that would block has failed: the input is not at its end.
-pub fn read<R: io::Read>(reader: &mut R, room: &mut [u8]) -> Input
+// How many bytes are read to the front of the buffer until the input ends or the buffer is full.
+// Also a read that would block has failed: the input is not at its end.
+pub fn read<R: io::Read>(reader: &mut R, room: &mut [u8]) -> io::Result<usize>
     ensures within { Within result room.new }
     ensures given { Given result (R.remaining reader.old) (R.remaining reader.new) room.new }
 {
     let mut count = 0;
+    // Each read may bring less than the room; what is left to fill is a slice of it.
     while count < room.len() {
-        match reader.read(&mut room[count..]) {
-            Ok(0) => return Input::Read(count),
-            Ok(more) => count += more,
-            Err(error) => return Input::Failed(error),
+        let more = reader.read(&mut room[count..])?;
+        if more == 0 {
+            break;
         }
+        count += more;
     }
-    Input::Read(count)
+    Ok(count)
 }

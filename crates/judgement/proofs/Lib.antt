@@ -1,6 +1,5 @@
 pub mod OneRecord
 pub mod ScanLaws
 pub mod ViewLaws
-pub mod Verdict
 pub mod Samples
 pub mod Longest

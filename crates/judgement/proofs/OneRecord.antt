@@ -9,8 +9,9 @@ use lib.Dec.{T, eqb, eqb→eq, ltb, nltb→le}
 use lib.ListN.{length, get_or}
 use borrow.Author.Tests.{eqb-true, eqb-false, not-false}
 use Rattle.lines.proofs.Tests.{T_false, cond_ind, and_left, and_right}
-use Rattle.records.specs.declared.Found.{Found}
-use Rattle.records.specs.declared.Found.TheVariants.{Body, Cut, Unknown}
+use Rattle.std.specs.Prelude.{Result, Ok, Err}
+use Rattle.records.specs.declared.Missing.{Missing}
+use Rattle.records.specs.declared.Missing.TheVariants.{Cut, Unknown}
 use Rattle.records.specs.Records.{found, Whole}
 use Rattle.judgement.specs.Numbers.{u16_at, u32_at}
 use Rattle.judgement.specs.Scan as D
@@ -130,7 +131,7 @@ module _ (file : List ℕ) (s : D.Scan) where
   unfolding D.judge_record D.record_of
   record_does = go (found file s.at) (λ n e. found_whole file s.at refl e)
     where
-      go : (f : Found) → ((n : ℕ) → f ≡ Body n → Whole file s.at) → Does file s (D.record_of file s f)
-      go Cut w = here 21 (omega arith) (omega arith)
-      go Unknown w = here 22 (omega arith) (omega arith)
-      go (Body n) w = does_kind (w n refl)
+      go : (f : Result ℕ Missing) → ((n : ℕ) → f ≡ Ok n → Whole file s.at) → Does file s (D.record_of file s f)
+      go (Err Cut) w = here 21 (omega arith) (omega arith)
+      go (Err Unknown) w = here 22 (omega arith) (omega arith)
+      go (Ok n) w = does_kind (w n refl)

@@ -1,15 +1,19 @@
 -- The judgement of a file by its definition: each test of each record, what a record does to the scan, and that the records come to a verdict.
 use mathlib.Core.Path.{◌≡◌, refl, sym, ap, subst, ◌∙◌}
-use mathlib.Core.Logic.{◌≢◌}
+use mathlib.Core.Logic.{◌≢◌, dite}
 use mathlib.Core.Bool.{true, false}
-use mathlib.Core.List.{List}
+use mathlib.Core.List.{List, [], ◌∷◌, ◌++◌}
 use Prim.Native.Nat.{ℕ, zero, suc, ◌+◌, ◌≤◌, ◌<◌}
 use native.Mathlib.Omega.{arith}
-use lib.ListN.{length, get_or}
+use lib.ListN.{length, get_or, length-append}
+use lib.Seq.{get_or_at}
+use Rattle.std.proofs.lemmas.List.{get_or_append_left}
+use native.Mathlib.Decide.{dec_lt}
 use borrow.Author.Tests.{le-ltb, lt-ltb, eq-eqb, ne_eqb}
-use Rattle.records.specs.declared.Found.{Found}
-use Rattle.records.specs.declared.Found.TheVariants.{Body, Cut, Unknown}
-use Rattle.records.specs.Records.{found}
+use Rattle.std.specs.Prelude.{Result, Ok, Err}
+use Rattle.records.specs.declared.Missing.{Missing}
+use Rattle.records.specs.declared.Missing.TheVariants.{Cut, Unknown}
+use Rattle.records.specs.Records.{found, number}
 use Rattle.judgement.specs.Numbers.{u16_at, u32_at}
 use Rattle.judgement.specs.Scan as D
 use Rattle.judgement.proofs.OneRecord.{Does, refuses, sizes, adds_row, adds_column, ends as ends-file, record_does}
@@ -88,16 +92,13 @@ module _ (file : List ℕ) (s : D.Scan) where
         )
 
   -- by what stands at the offset
-  module _ {f : Found} (e : f ≡ found file s.at) where
-    pub record_cut : f ≡ Cut → D.refused 21 s.at ≡ D.judge_record file s
+  module _ {f : Result ℕ Missing} (e : f ≡ found file s.at) where
+    pub record_missing : (missing : Missing) → f ≡ Err missing → D.refused (number (Err missing)) s.at ≡ D.judge_record file s
     unfolding D.judge_record D.record_of
-    record_cut p = ap (D.record_of file s) (sym p ∙ e)
+    record_missing Cut p = ap (D.record_of file s) (sym p ∙ e)
+    record_missing Unknown p = ap (D.record_of file s) (sym p ∙ e)
 
-    pub record_unknown : f ≡ Unknown → D.refused 22 s.at ≡ D.judge_record file s
-    unfolding D.judge_record D.record_of
-    record_unknown p = ap (D.record_of file s) (sym p ∙ e)
-
-    pub record_whole : {k : ℕ} → f ≡ Body k → D.by_kind file s ≡ D.judge_record file s
+    pub record_whole : {k : ℕ} → f ≡ Ok k → D.by_kind file s ≡ D.judge_record file s
     unfolding D.judge_record D.record_of
     record_whole p = ap (D.record_of file s) (sym p ∙ e)
 
@@ -135,12 +136,6 @@ module _ (s : D.Scan) (count : ℕ) (next : D.Scan) where
 
 -- ---- what a record does
 
--- a scan between two records
-pub record Fair (file : List ℕ) (s : D.Scan) : Type 0 where
-  pub inside : s.at ≤ length file
-  pub small : s.n ≤ 64
-  pub low : s.window ≤ 1_000_000_000
-
 -- what an accepted file's scan tells
 pub record Filled (s : D.Scan) : Type 0 where
   pub some : 0 < s.n
@@ -151,19 +146,37 @@ pub record Filled (s : D.Scan) : Type 0 where
 
 -- after one record: further on, or a verdict
 abbrev pub After : List ℕ → D.Scan → D.Judged → Type 0
-After file s (D.more t) = (s.at < t.at) × Fair file t
+After file s (D.more t) = (s.at < t.at) × D.Consistent file t
 After file s (D.refused number place) = 0 < number
-After file s (D.accepted t) = Filled t
+After file s (D.accepted t) = Filled t × D.Consistent file t
 
-pub record_after : (file : List ℕ) (s : D.Scan) → Fair file s → After file s (D.judge_record file s)
+-- offsets that are kept
+offsets_none : {file : List ℕ} {n size : ℕ} → D.Offsets file n size []
+offsets_none = record { few = omega arith; inside = λ i h. absurd (omega arith) }
+
+offsets_more : {file : List ℕ} {n size : ℕ} (offsets : List ℕ) (at : ℕ) → D.Offsets file n size offsets → at + size ≤ length file → length offsets ≢ n
+    → D.Offsets file n size (offsets ++ at ∷ [])
+offsets_more {file} {n} {size} offsets at k fits fewer =
+    let one = length-append offsets (at ∷ []) in
+    record {
+      few = omega (arith, one, k.few);
+      inside = λ i h.
+          dite (dec_lt i (length offsets))
+          (λ l. rw (get_or_append_left offsets (at ∷ []) 0 i l) (k.inside i l))
+          (λ l. let last : i ≡ length offsets = omega (arith, one) in rw (last, get_or_at offsets at [] 0 (length offsets) refl) fits);
+    }
+
+pub record_after : (file : List ℕ) (s : D.Scan) → D.Consistent file s → After file s (D.judge_record file s)
 record_after file s h = go (record_does file s)
   where
     go : {j : D.Judged} → Does file s j → After file s j
     go (refuses number place r) = omega (arith, r.low)
-    go (sizes r) = (omega arith, record { inside = r.fits; small = r.small; low = r.low })
-    go (adds_row r) = (omega arith, record { inside = r.fits; small = h.small; low = h.low })
-    go (adds_column r) = (omega arith, record { inside = r.fits; small = h.small; low = h.low })
-    go (ends-file r) = let some = r.some in record { some = omega arith; small = h.small; low = h.low; rows = r.rows; columns = r.columns }
+    go (sizes r) = (omega arith, record { inside = r.fits; small = r.small; low = r.low; rows = offsets_none; columns = offsets_none })
+    go (adds_row r) =
+        (omega arith, record { inside = r.fits; small = h.small; low = h.low; rows = offsets_more s.fragments s.at h.rows r.fits r.fewer; columns = h.columns })
+    go (adds_column r) =
+        (omega arith, record { inside = r.fits; small = h.small; low = h.low; rows = h.rows; columns = offsets_more s.events s.at h.columns r.fits r.fewer })
+    go (ends-file r) = let some = r.some in (record { some = omega arith; small = h.small; low = h.low; rows = r.rows; columns = r.columns }, h)
 
 -- ---- the verdict
 
@@ -178,33 +191,40 @@ module _ (file : List ℕ) where
   stays_accepted zero s = refl
   stays_accepted (suc k) s = refl
 
-abbrev Ended : D.Judged → Type 0
-Ended (D.more s) = ⊥
-Ended (D.refused number place) = 0 < number
-Ended (D.accepted s) = Filled s
+abbrev Ended : List ℕ → D.Judged → Type 0
+Ended file (D.more s) = ⊥
+Ended file (D.refused number place) = 0 < number
+Ended file (D.accepted s) = Filled s × D.Consistent file s
 
 -- with more records allowed than there are bytes left
-ends : (file : List ℕ) (k : ℕ) (s : D.Scan) → Fair file s → length file < s.at + k → Ended (D.judge_from file k (D.more s))
+ends : (file : List ℕ) (k : ℕ) (s : D.Scan) → D.Consistent file s → length file < s.at + k → Ended file (D.judge_from file k (D.more s))
 unfolding D.judge_from
 ends file zero s h room = absurd (omega (arith, h.inside))
 ends file (suc k) s h room = go (D.judge_record file s) (record_after file s h) (ends file k)
   where
-    go : (j : D.Judged) → After file s j → ((t : D.Scan) → Fair file t → length file < t.at + k → Ended (D.judge_from file k (D.more t))) → Ended (D.judge_from file k j)
+    go : (j : D.Judged) → After file s j → ((t : D.Scan) → D.Consistent file t → length file < t.at + k → Ended file (D.judge_from file k (D.more t))) → Ended file (D.judge_from file k j)
     go (D.more t) a rest = rest t a.1 (omega (arith, a.0))
     go (D.refused number place) a rest = rw (stays_refused file k number place) a
     go (D.accepted t) a rest = rw (stays_accepted file k t) a
 
-judged_ends : (file : List ℕ) → Ended (D.judged file)
+pub start_consistent : {file : List ℕ} → D.Consistent file D.start
+start_consistent = record { inside = omega arith; small = omega arith; low = omega arith; rows = offsets_none; columns = offsets_none }
+
+judged_ends : (file : List ℕ) → Ended file (D.judged file)
 unfolding D.judged
-judged_ends file = ends file (length file + 1) D.start (record { inside = omega arith; small = omega arith; low = omega arith }) (omega arith)
+judged_ends file = ends file (length file + 1) D.start start_consistent (omega arith)
 
 module _ (file : List ℕ) {s : D.Scan} where
   pub never_more : D.judged file ≡ D.more s → ⊥
-  never_more e = subst Ended e (judged_ends file)
+  never_more e = subst (Ended file) e (judged_ends file)
 
   pub accepted_filled : D.judged file ≡ D.accepted s → Filled s
-  accepted_filled e = subst Ended e (judged_ends file)
+  accepted_filled e = (subst (Ended file) e (judged_ends file)).0
+
+  -- its offsets are those of records that lie within the file
+  pub accepted_consistent : D.judged file ≡ D.accepted s → D.Consistent file s
+  accepted_consistent e = (subst (Ended file) e (judged_ends file)).1
 
 -- a refusal's number is never that of an accepted file
 pub refused_some : (file : List ℕ) {number place : ℕ} → D.judged file ≡ D.refused number place → 0 < number
-refused_some file e = subst Ended e (judged_ends file)
+refused_some file e = subst (Ended file) e (judged_ends file)

@@ -1,7 +1,7 @@
 -- The judgement of a case file, record after record: 21, 22, 23, 25, 24, 26 in that order, each with its place.
-use Rattle.std.specs.Prelude.{Bool, cond, not, ◌&&◌, ◌||◌, List, [], ◌∷◌, ◌++◌, ℕ, zero, suc, ◌+◌, eqb, ltb, length, get_or}
-use Rattle.records.specs.declared.Found.{Found}
-use Rattle.records.specs.declared.Found.TheVariants.{Body, Cut, Unknown}
+use Rattle.std.specs.Prelude.{Bool, cond, not, ◌&&◌, ◌||◌, List, [], ◌∷◌, ◌++◌, ℕ, zero, suc, ◌+◌, eqb, ltb, length, get_or, ◌≤◌, ◌<◌, Result, Ok, Err}
+use Rattle.records.specs.declared.Missing.{Missing}
+use Rattle.records.specs.declared.Missing.TheVariants.{Cut, Unknown}
 use Rattle.records.specs.Records.{found, number}
 use Rattle.judgement.specs.Numbers.{u16_at, u32_at}
 
@@ -17,6 +17,19 @@ pub record Scan : Type 0 where
 
 abbrev pub scan_with : ℕ → ℕ → ℕ → List ℕ → List ℕ → Scan
 scan_with at n window fragments events = record { at = at; n = n; window = window; fragments = fragments; events = events }
+
+-- the offsets of whole records of `size` bytes, of which there may be n
+pub record Offsets (file : List ℕ) (n size : ℕ) (offsets : List ℕ) : Type 0 where
+  pub few : length offsets ≤ n
+  pub inside : (i : ℕ) → i < length offsets → get_or offsets i 0 + size ≤ length file
+
+-- what holds between two records
+pub record Consistent (file : List ℕ) (s : Scan) : Type 0 where
+  pub inside : s.at ≤ length file
+  pub small : s.n ≤ 64
+  pub low : s.window ≤ 1_000_000_000
+  pub rows : Offsets file s.n 9 s.fragments
+  pub columns : Offsets file s.n 7 s.events
 
 -- before the first record
 abbrev pub start : Scan
@@ -76,10 +89,10 @@ module _ (file : List ℕ) (s : Scan) where
       let kind = get_or file s.at 0 in
       cond (eqb kind 1) size (cond (eqb kind 2) (fragment s) (cond (eqb kind 3) (event s) end))
 
-  unfoldable pub record_of : Found → Judged
-  record_of Cut = refused (number Cut) s.at
-  record_of Unknown = refused (number Unknown) s.at
-  record_of (Body k) = by_kind
+  unfoldable pub record_of : Result ℕ Missing → Judged
+  record_of (Err Cut) = refused (number (Err Cut)) s.at
+  record_of (Err Unknown) = refused (number (Err Unknown)) s.at
+  record_of (Ok k) = by_kind
 
 -- the record at the scan's offset
 unfoldable pub judge_record : List ℕ → Scan → Judged

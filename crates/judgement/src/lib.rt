@@ -1,27 +1,27 @@
 // The judgement of a case file, record after record. Only the crates of the case reader call what is here, so a function may have a `requires`.
 #![tactic(auto)]
 
-ghost use Rattle.std.specs.Prelude.{◌≡◌, length};
+ghost use Rattle.std.specs.Prelude.{◌≡◌};
 ghost use Rattle.judgement.specs.Scan.{judged};
-ghost use Rattle.judgement.specs.View.{Agrees};
+ghost use Rattle.judgement.specs.View.{verdict};
 
+use crate::refusal::Refusal;
 use crate::scan::Scan;
+use records::Kind;
 
 pub mod numbers;
-mod record;
+pub mod offsets;
+pub mod refusal;
 pub mod scan;
 
-// Until a verdict.
-pub fn judge_file(file: &[u8], fragments: &mut [usize], events: &mut [usize]) -> Scan
-    requires { (length fragments.old ≡ 64) × (length events.old ≡ 64) }
-    ensures { Agrees file.now (judged file.now) result fragments.new events.new }
+// What an accepted file says, or why it is refused.
+pub fn judge_file(file: &[u8]) -> Result<Scan, Refusal>
+    ensures { verdict result ≡ judged file.now }
 {
-    let mut scan = scan::start();
+    let mut scan = Scan::start();
     loop {
-        let verdict = scan.judged;
-        if scan::is_over(verdict) {
-            return scan;
+        if let Kind::End = scan.judge_record(file)? {
+            return Ok(scan);
         }
-        scan = record::judge_record(file, scan, fragments, events);
     }
 }

@@ -1,105 +1,111 @@
-// The scan of a case file: what has been read, and the verdict so far. The offsets of fragments and events are kept beside it, in two arrays of 64.
-ghost use Rattle.std.specs.Prelude.{◌≡◌, ◌+◌, ◌≤◌, ◌<◌, ◌^◌};
-ghost use Rattle.judgement.specs.View.{start as view_start, with_verdict, with_size, with_fragment, with_event, decided};
+// The scan of a case file: what has been read, and the judgement of the record that is next.
+ghost use Rattle.std.specs.Prelude.{◌≡◌, ◌+◌, ◌≤◌, ◌<◌, length, List, ℕ};
+ghost use Rattle.judgement.specs.Scan.{start, size as scan_size, end as scan_end, judge_record, Consistent};
+ghost use Rattle.judgement.specs.View.{view_scan, view_judged, goes_on, ended, JudgesLine};
 
-#[derive(Clone, Copy)]
-pub enum Judged {
-    More,
-    Refused(u32, usize),
-    Accepted,
-}
+use crate::numbers::Number;
+use crate::offsets::Offsets;
+use crate::refusal::{Refusal, Rule};
+use records::Kind;
 
-// The offset of the next record, the size (0 before it is read), how many fragments and events there were, and the verdict so far.
-#[derive(Clone, Copy)]
+// The offset of the next record, the size (0 before it is read), and the offsets of the fragments and events.
+#[derive(Drop)]
 pub struct Scan {
     pub at: usize,
     pub n: usize,
     pub window: u32,
-    pub fragments: usize,
-    pub events: usize,
-    pub judged: Judged,
+    pub fragments: Offsets,
+    pub events: Offsets,
 }
 
-// Before the first record.
-pub(crate) fn start() -> Scan
-    ensures { result ≡ view_start }
+// A fragment or an event, which stands at an offset: after the size, and not one too many. Its offset is kept.
+fn judge_line(n: usize, lines: &mut Offsets, at: usize) -> Result<(), Refusal>
+    requires { (length lines.old ≤ n) × (n ≤ 64) }
+    ensures { JudgesLine n at lines.old result lines.new }
 {
-    Scan {
-        at: 0,
-        n: 0,
-        window: 0,
-        fragments: 0,
-        events: 0,
-        judged: Judged::More,
+    if n == 0 {
+        return Err(Rule::Order.at(at));
     }
-}
-
-// The same scan with another verdict.
-pub(crate) fn with_verdict(scan: Scan, judged: Judged) -> Scan
-    ensures { result ≡ with_verdict scan judged }
-{
-    Scan {
-        at: scan.at,
-        n: scan.n,
-        window: scan.window,
-        fragments: scan.fragments,
-        events: scan.events,
-        judged,
+    if lines.len() == n {
+        return Err(Rule::Count.at(at));
     }
+    lines.push(at);
+    Ok(())
 }
 
-// Behind the size.
-pub(crate) fn with_size(scan: Scan, n: u16, window: u32) -> Scan
-    requires { scan.at + 7 < 2 ^ 64 }
-    ensures { result ≡ with_size scan n window }
-{
-    Scan {
-        at: scan.at + 7,
-        n: n as usize,
-        window,
-        fragments: 0,
-        events: 0,
-        judged: Judged::More,
+impl Scan {
+    // Before the first record.
+    pub(crate) fn start() -> Self
+        ensures { view_scan result ≡ start }
+    {
+        Scan {
+            at: 0,
+            n: 0,
+            window: 0,
+            fragments: Offsets::new(),
+            events: Offsets::new(),
+        }
     }
-}
 
-// The same scan behind a fragment.
-pub(crate) fn with_fragment(scan: Scan) -> Scan
-    requires { (scan.at + 9 < 2 ^ 64) × (scan.fragments ≤ 64) }
-    ensures { result ≡ with_fragment scan }
-{
-    Scan {
-        at: scan.at + 9,
-        n: scan.n,
-        window: scan.window,
-        fragments: scan.fragments + 1,
-        events: scan.events,
-        judged: Judged::More,
+    // A size record: first, and only once; n from 1 to 64, a window of at most 1,000,000,000.
+    fn judge_size(&mut self, file: &[u8]) -> Result<(), Refusal>
+        requires { Consistent file.now (view_scan self.old) × (self.old.at + 7 ≤ length file.now) }
+        ensures { goes_on result self.new ≡ scan_size file.now (view_scan self.old) }
+    {
+        if self.n != 0 {
+            return Err(Rule::Order.at(self.at));
+        }
+        let n = u16::read(file, self.at + 1);
+        let window = u32::read(file, self.at + 3);
+        if n == 0 || 64 < n || 1_000_000_000 < window {
+            return Err(Rule::Range.at(self.at));
+        }
+        self.at += 7;
+        self.n = usize::from(n);
+        self.window = window;
+        Ok(())
     }
-}
 
-// The same scan behind an event.
-pub(crate) fn with_event(scan: Scan) -> Scan
-    requires { (scan.at + 7 < 2 ^ 64) × (scan.events ≤ 64) }
-    ensures { result ≡ with_event scan }
-{
-    Scan {
-        at: scan.at + 7,
-        n: scan.n,
-        window: scan.window,
-        fragments: scan.fragments,
-        events: scan.events + 1,
-        judged: Judged::More,
+    // The end: not first, not too early, and nothing after it.
+    fn judge_end(&self, file: &[u8]) -> Result<(), Refusal>
+        requires { self.now.at + 1 ≤ length file.now }
+        ensures { ended result self.now ≡ scan_end file.now (view_scan self.now) }
+    {
+        if self.n == 0 {
+            return Err(Rule::Order.at(self.at));
+        }
+        if self.fragments.len() != self.n || self.events.len() != self.n {
+            return Err(Rule::Count.at(self.at));
+        }
+        if self.at + 1 != file.len() {
+            return Err(Rule::Behind.at(self.at + 1));
+        }
+        Ok(())
     }
-}
 
-// Is a verdict there?
-pub(crate) fn is_over(judged: Judged) -> bool
-    ensures { result ≡ decided judged }
-{
-    match judged {
-        Judged::More => false,
-        Judged::Refused(_, _) => true,
-        Judged::Accepted => true,
+    // The record that is next: it is read, and its kind is given; or refused.
+    pub(crate) fn judge_record(&mut self, file: &[u8]) -> Result<Kind, Refusal>
+        requires { Consistent file.now (view_scan self.old) }
+        ensures { view_judged result self.new ≡ judge_record file.now (view_scan self.old) }
+    {
+        let at = self.at;
+        // A `match`, since the proof does not close over a `map_err` that adds the offset.
+        let kind = match records::find_kind(file, at) {
+            Ok(kind) => kind,
+            Err(missing) => return Err(Rule::from(missing).at(at)),
+        };
+        match kind {
+            Kind::Size => self.judge_size(file)?,
+            Kind::Fragment => {
+                judge_line(self.n, &mut self.fragments, at)?;
+                self.at += 9;
+            }
+            Kind::Event => {
+                judge_line(self.n, &mut self.events, at)?;
+                self.at += 7;
+            }
+            Kind::End => self.judge_end(file)?,
+        }
+        Ok(kind)
     }
 }

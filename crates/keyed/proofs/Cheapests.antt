@@ -14,7 +14,8 @@ use Rattle.lines.specs.Sets.{has}
 use Rattle.lines.proofs.Tests.{T_false, T_or, cases, clash}
 use Rattle.lines.proofs.Sets.{has_empty}
 use Rattle.lines.proofs.Signed.{signed, plus_parts, minus_parts}
-use Rattle.keyed.specs.Keys.{far, limit, less_prices, lesser}
+use Rattle.std.specs.Int.{int_min}
+use Rattle.keyed.specs.Keys.{far, limit, less_prices}
 use Rattle.keyed.specs.Opening.{own_term, Cheapest, Known, Opens}
 use Rattle.keyed.specs.Best.{Keys}
 use Rattle.keyed.proofs.Packs.{plus_times}
@@ -88,7 +89,7 @@ module _ (n columns : ℕ) (keys row_prices column_prices : List ℤ) where
   }
 
   module _ {cheapest₀ cheapest : List ℕ} {key₀ key : List ℤ} {best : ℤ} (k c : ℕ) (here best' : ℤ) (x : Chosen cheapest₀ cheapest key₀ key best k) where
-    pub chosen_more : k < length cheapest → k < length key → Cheapest n columns keys row_prices column_prices k c → here ≡ term c k → best' ≡ lesser best here
+    pub chosen_more : k < length cheapest → k < length key → Cheapest n columns keys row_prices column_prices k c → here ≡ term c k → best' ≡ int_min best here
         → Chosen cheapest₀ (set cheapest k c) key₀ (set key k here) best' (k + 1)
     chosen_more hc hk found eh eb = record {
       cheapest_same = length-set cheapest k c ∙ x.cheapest_same;

@@ -9,11 +9,12 @@ use lib.IntN.{ℤ, pos}
 use lib.ListN.{length, get_or, set}
 use Rattle.lines.specs.Sets.{has}
 use Rattle.lines.proofs.Loops.{Passed, passed_none, passed_store, passed_keep}
-use Rattle.keyed.specs.Keys.{far, lesser, lowered_key, least_key}
+use Rattle.std.specs.Int.{int_min}
+use Rattle.keyed.specs.Keys.{far, lowered_key, least_key}
 
 module _ (rows : ℕ) (term : ℕ → ℤ) (key₀ : List ℤ) where
   abbrev pub lowest : ℕ → ℤ
-  lowest i = lesser (get_or key₀ i (pos 0)) (term i)
+  lowest i = int_min (get_or key₀ i (pos 0)) (term i)
 
   -- after k rows
   pub record Lowered (key : List ℤ) (best : ℤ) (k : ℕ) : Type 0 where
@@ -34,10 +35,10 @@ module _ (rows : ℕ) (term : ℕ → ℤ) (key₀ : List ℤ) where
 
   -- an uncovered row
   pub lowered_store : {key : List ℤ} {best : ℤ} (k : ℕ) (here best' : ℤ) → has rows k ≡ false → k < length key
-      → here ≡ lesser (get_or key k (pos 0)) (term k) → best' ≡ lesser best here → Lowered key best k → Lowered (set key k here) best' (k + 1)
+      → here ≡ int_min (get_or key k (pos 0)) (term k) → best' ≡ int_min best here → Lowered key best k → Lowered (set key k here) best' (k + 1)
   unfolding least_key lowered_key
   lowered_store {key} k here best' e h eh eb l =
-      let here_is : here ≡ lowest k = eh ∙ ap (λ x. lesser x (term k)) (l.passed.left k (omega arith)) in
+      let here_is : here ≡ lowest k = eh ∙ ap (λ x. int_min x (term k)) (l.passed.left k (omega arith)) in
       record {
         passed = passed_store (pos 0) (lowered_key rows term) key₀ key k here h (here_is ∙ rw e) l.passed;
         least = eb ∙ rw (add-one, e, l.least, here_is);

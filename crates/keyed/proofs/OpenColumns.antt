@@ -15,7 +15,8 @@ use Rattle.lines.specs.Sets.{has, without, all, those}
 use Rattle.lines.proofs.Sets.{has_all, has_those, without_same, without_other}
 use Rattle.lines.proofs.Signed.{signed}
 use Rattle.lines.proofs.Tests.{clash, T_false}
-use Rattle.keyed.specs.Keys.{far, limit, lesser, lowered_key, least_key}
+use Rattle.std.specs.Int.{int_min}
+use Rattle.keyed.specs.Keys.{far, limit, lowered_key, least_key}
 use Rattle.keyed.specs.Best.{Keys}
 use Rattle.keyed.specs.Opening.{Opens, own_term}
 use Rattle.keyed.proofs.Opens.{best_of, keys_none, keys_ext, best_ext, keys_opened}
@@ -78,16 +79,16 @@ module _ (n rows columns : ℕ) (keys row_prices column_prices : List ℤ) where
 
   pub opening_more : {key : List ℤ} {best : ℤ} (key' : List ℤ) (best' : ℤ) (k : ℕ) → k < n → has columns k ≡ false
       → ((i : ℕ) → i < n → get_or key' i (pos 0) ≡ lowered_key rows (term k) i (get_or key i (pos 0)))
-      → best' ≡ least_key rows (λ i. lesser (get_or key i (pos 0)) (term k i)) n → Opening key best k → Opening key' best' (k + 1)
+      → best' ≡ least_key rows (λ i. int_min (get_or key i (pos 0)) (term k i)) n → Opening key best k → Opening key' best' (k + 1)
   unfolding lowered_key
   opening_more {key} key' best' k h e new least o = record {
     opens = λ ok working told shut.
         let x = o.opens ok working told shut in
-        let opened : (new_key : ℕ → ℤ) → ((i : ℕ) → i < n → T (not (has rows i)) → new_key i ≡ lesser (get_or key i (pos 0)) (term k i))
+        let opened : (new_key : ℕ → ℤ) → ((i : ℕ) → i < n → T (not (has rows i)) → new_key i ≡ int_min (get_or key i (pos 0)) (term k i))
         → Keys 64 n ok limit working rows (without (shut_at k) k) (pos 0) new_key = λ new_key e.
         keys_opened 64 n ok limit beyond working (pos 0) {key = λ i. get_or key i (pos 0)} {term = term k} k h (λ i hi u. told i k hi h) (λ i hi u. shut i k hi h) e x.0 in
         let k1 = opened (λ i. get_or key' i (pos 0)) (λ i hi u. new i hi ∙ rw (T_false (has rows i) u)) in
-        let k2 = opened (λ i. lesser (get_or key i (pos 0)) (term k i)) (λ i hi u. refl) in
+        let k2 = opened (λ i. int_min (get_or key i (pos 0)) (term k i)) (λ i hi u. refl) in
         (keys_ext 64 n ok limit beyond working (pos 0) same k1, rw least (best_ext 64 n ok limit beyond working (pos 0) same (best_of 64 n ok limit beyond working (pos 0) k2)));
   }
     where

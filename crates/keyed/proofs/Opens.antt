@@ -14,24 +14,22 @@ use Rattle.lines.specs.Sets.{has, with, without, all}
 use Rattle.lines.proofs.Tests.{T_true, T_false, T_or, by_cases, cases, clash}
 use Rattle.lines.proofs.Sets.{with_same, with_other, without_same, without_other, has_all}
 use Rattle.lines.proofs.Signed.{P, N, signed, plus_parts, minus_parts}
-use Rattle.keyed.specs.Keys.{pack, entry, less_prices, lesser, least_key, far}
+use Rattle.std.specs.Int.{int_min}
+use Rattle.keyed.specs.Keys.{pack, entry, less_prices, least_key, far}
 use Rattle.keyed.specs.Best.{key_at, KeyIn, Keys, Best}
 use Rattle.keyed.proofs.Packs.{times_parts, prices_off}
 
 -- ---- the lesser of two
 
 module _ (x y : ℤ) where
-  pub lesser_left : lesser x y ≤ℤ x
-  unfolding lesser
-  lesser_left = by_cases (lt_z x y) (λ e. rw e (≤ℤ_refl x)) (λ e. rw e (omega signed))
+  pub lesser_left : int_min x y ≤ℤ x
+  lesser_left = by_cases (lt_z y x) (λ e. rw e (omega signed)) (λ e. rw e (≤ℤ_refl x))
 
-  pub lesser_right : lesser x y ≤ℤ y
-  unfolding lesser
-  lesser_right = by_cases (lt_z x y) (λ e. rw e (omega signed)) (λ e. rw e (≤ℤ_refl y))
+  pub lesser_right : int_min x y ≤ℤ y
+  lesser_right = by_cases (lt_z y x) (λ e. rw e (≤ℤ_refl y)) (λ e. rw e (omega signed))
 
-  pub lesser_one : (lesser x y ≡ x) ⊎ (lesser x y ≡ y)
-  unfolding lesser
-  lesser_one = by_cases (lt_z x y) (λ e. inl (rw e)) (λ e. inr (rw e))
+  pub lesser_one : (int_min x y ≡ x) ⊎ (int_min x y ≡ y)
+  lesser_one = by_cases (lt_z y x) (λ e. inr (rw e)) (λ e. inl (rw e))
 
 -- ---- the least key
 
@@ -48,7 +46,7 @@ module _ (rows : ℕ) (key : ℕ → ℤ) where
   least_low zero i h t = absurd (omega arith)
   least_low (suc n) i h t = go (has rows n) refl (λ l. least_low n i l t)
     where
-      go : (x : Bool) → has rows n ≡ x → (i < n → least_key rows key n ≤ℤ key i) → cond x (least_key rows key n) (lesser (least_key rows key n) (key n)) ≤ℤ key i
+      go : (x : Bool) → has rows n ≡ x → (i < n → least_key rows key n ≤ℤ key i) → cond x (least_key rows key n) (int_min (least_key rows key n) (key n)) ≤ℤ key i
       go true e before = before (dite (ℕ_discrete i n) (λ q. absurd (rw (q, e) at t)) (λ ne. omega arith))
       go false e before =
           dite (ℕ_discrete i n)
@@ -66,7 +64,7 @@ module _ (rows : ℕ) (key : ℕ → ℤ) where
       on : {y : ℤ} → RowKey rows key n y → RowKey rows key (suc n) y
       on k = record { row = k.row; row_below = omega (arith, k.row_below); is_open = k.is_open; value = k.value }
 
-      go : (x : Bool) → has rows n ≡ x → (z ≡ far) ⊎ RowKey rows key n z → (cond x z (lesser z (key n)) ≡ far) ⊎ RowKey rows key (suc n) (cond x z (lesser z (key n)))
+      go : (x : Bool) → has rows n ≡ x → (z ≡ far) ⊎ RowKey rows key n z → (cond x z (int_min z (key n)) ≡ far) ⊎ RowKey rows key (suc n) (cond x z (int_min z (key n)))
       go true e h = cases h (λ q. inl q) (λ k. inr (on k))
       go false e h =
           cases (lesser_one z (key n))
@@ -157,7 +155,7 @@ module _ (B n : ℕ) (ok : ℕ → ℕ → Bool) (limit : ℤ) (beyond : limit �
   module _ {rows columns : ℕ} {key key' term : ℕ → ℤ} (s : ℕ) (hs : s < n)
       (told : (i : ℕ) → i < n → T (not (has rows i)) → T (ok i s) → term i ≡ key_at B n ok limit working risen i s)
       (shut : (i : ℕ) → i < n → T (not (has rows i)) → T (not (ok i s)) → limit ≤ℤ term i)
-      (new : (i : ℕ) → i < n → T (not (has rows i)) → key' i ≡ lesser (key i) (term i)) where
+      (new : (i : ℕ) → i < n → T (not (has rows i)) → key' i ≡ int_min (key i) (term i)) where
     pub keys_opened : Keys B n ok limit working rows columns risen key → Keys B n ok limit working rows (without columns s) risen key'
     keys_opened k = record {
       low = λ i j hi hj o. rw (new i hi o.row)
@@ -173,7 +171,7 @@ module _ (B n : ℕ) (ok : ℕ → ℕ → Bool) (limit : ℤ) (beyond : limit �
         still : (j : ℕ) → T (not (has columns j)) → T (not (has (without columns s) j))
         still j u = dite (ℕ_discrete j s) (λ e. rw (e, without_same columns s) tt) (λ ne. rw (without_other columns s j ne) u)
 
-        hits : (i : ℕ) → i < n → T (not (has rows i)) → lt_z (key' i) limit ≡ true → lt_z (lesser (key i) (term i)) limit ≡ true
+        hits : (i : ℕ) → i < n → T (not (has rows i)) → lt_z (key' i) limit ≡ true → lt_z (int_min (key i) (term i)) limit ≡ true
             → KeyIn B n ok limit working rows (without columns s) risen (key' i) i
         hits i hi t near' near = cases (lesser_one (key i) (term i))
             (λ e. let h = k.hit i hi t (rw e at near) in

@@ -27,11 +27,10 @@ pub record LessPrices (entry row_price price : ℤ) : Type 0 where
   pub price_within : Within 140737488355328 price
 
 -- a column that opens
-pub record Lowers (n : ℕ) (keys row_prices : List ℤ) (column : ℕ) (price : ℤ) (key : List ℤ) : Type 0 where
+pub record Lowers (n : ℕ) (keys row_prices : List ℤ) (column : ℕ) (price : ℤ) : Type 0 where
   pub word : InWord n
   pub keys_square : Square n keys
   pub row_lines : length row_prices ≡ n
-  pub key_long : n ≤ length key
   pub below : column < n
   pub price_within : Within 140737488355328 price
   pub row_within : (i : ℕ) → i < n → Within 140737488355328 (get_or row_prices i (pos 0))
@@ -52,12 +51,7 @@ pub record Safe (n : ℕ) (risen : ℤ) (keys row_prices column_prices : List �
   pub risen_within : Within 1099511627776 risen
   pub entry_within : (q : ℕ) → q < n * n → Within 4611686018427387904 (get_or keys q (pos 0))
 
--- a cell whose key is asked, and a row whose cheapest open column is
-pub record KeyAt (n : ℕ) (keys row_prices column_prices : List ℤ) (row column : ℕ) : Type 0 where
-  pub safe : Safe n (pos 0) keys row_prices column_prices
-  pub row_below : row < n
-  pub column_below : column < n
-
+-- a row whose cheapest open column is asked
 pub record Searches (n columns : ℕ) (keys row_prices column_prices : List ℤ) (row : ℕ) : Type 0 where
   pub safe : Safe n (pos 0) keys row_prices column_prices
   pub below : row < n
@@ -68,9 +62,7 @@ pub record Chooses (n columns : ℕ) (keys row_prices column_prices : List ℤ) 
   pub known : column < n → has columns column ≡ false → NoneCheaper n columns keys row_prices column_prices row column
 
 -- all rows
-pub record OpensColumns (n columns : ℕ) (keys row_prices column_prices : List ℤ) (cheapest : List ℕ) (key : List ℤ) : Type 0 where
+pub record OpensColumns (n columns : ℕ) (keys row_prices column_prices : List ℤ) (cheapest : List ℕ) : Type 0 where
   pub safe : Safe n (pos 0) keys row_prices column_prices
   pub some : rest n columns ≢ 0
-  pub cheapest_long : n ≤ length cheapest
-  pub key_long : n ≤ length key
   pub known : Known n columns keys row_prices column_prices cheapest

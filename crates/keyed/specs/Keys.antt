@@ -11,6 +11,7 @@
 -- N is the packing base, above every line.
 use Rattle.std.specs.Prelude.{Bool, cond, not, ◌&&◌, ℕ, zero, suc, ◌+◌, ◌*◌, ◌/◌, ◌%◌, ℤ, pos, ◌+ℤ◌, ◌-ℤ◌, ◌*ℤ◌}
 use Rattle.std.specs.Int.Signed.{lt_z}
+use Rattle.std.specs.Int.{int_min}
 use Rattle.lines.specs.Sets.{has}
 use Rattle.lines.proofs.Signed.{P}
 
@@ -48,14 +49,11 @@ module _ (N : ℕ) where
   unfoldable pub names_zero : ℤ → ℤ → Bool
   names_zero best risen = lt_z best limit && not (lt_z risen (value_of best))
 
-unfoldable pub lesser : ℤ → ℤ → ℤ
-lesser x y = cond (lt_z x y) x y
-
 -- a row's key after a column has opened, in which it has `term`; a covered row's key does not matter
 unfoldable pub lowered_key : ℕ → (ℕ → ℤ) → ℕ → ℤ → ℤ
-lowered_key rows term i k = cond (has rows i) k (lesser k (term i))
+lowered_key rows term i k = cond (has rows i) k (int_min k (term i))
 
 -- the least key of the rows below n that are not covered, or far
 unfoldable pub least_key : ℕ → (ℕ → ℤ) → ℕ → ℤ
 least_key rows key zero = far
-least_key rows key (suc n) = cond (has rows n) (least_key rows key n) (lesser (least_key rows key n) (key n))
+least_key rows key (suc n) = cond (has rows n) (least_key rows key n) (int_min (least_key rows key n) (key n))

@@ -12,9 +12,9 @@ use lib.Count.{count_trailing_zeros, under}
 use lib.Pow.{pow_pos, pow-lt, ones_lt, high, ones_split}
 use Rattle.lines.specs.First.{first}
 use Rattle.lines.specs.Sets.{has, with, without, all, rest}
-use Rattle.lines.proofs.Tests.{T_false, by_cases}
+use Rattle.lines.proofs.Tests.{T_true, T_false, by_cases}
 use Rattle.lines.proofs.Firsts.{First, first_one, first_is, first_at}
-use Rattle.lines.proofs.Sets.{has_suc, has_odd, has_even, none_empty, with_bottom, with_up, without_bottom, without_up, cut_low, rest_low}
+use Rattle.lines.proofs.Sets.{has_suc, has_odd, has_even, none_empty, with_bottom, with_up, without_bottom, without_up, without_lt, cut_low, rest_low}
 
 -- ---- the code's operations on words of k digits
 
@@ -123,6 +123,10 @@ pub lowest_lt : (n s : ℕ) → s < 2 ^ n → s ≢ 0 → first (has s) n < n
 lowest_lt n s h z =
     dite (dec_lt (first (has s) n) n) (λ l. l) (λ l.
     absurd (z (none_empty n s h (λ i k. T_false (has s i) ((first_is (has s) n).before i (omega arith))))))
+
+-- without it less is left
+pub lowest_less : (n s : ℕ) → s < 2 ^ n → s ≢ 0 → without s (first (has s) n) < s
+lowest_less n s h z = without_lt s _ (T_true _ ((first_is (has s) n).hit (lowest_lt n s h z)))
 
 -- the same, where the word has k digits and the set is below n of them
 pub lowest_in : (k n s : ℕ) → n ≤ k → s < 2 ^ n → s ≢ 0 → count_trailing_zeros k s ≡ first (has s) n

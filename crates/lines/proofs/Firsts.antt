@@ -6,8 +6,11 @@ use Prim.Native.Nat.{ℕ, zero, suc, ◌≤◌, ◌<◌, min}
 use native.Mathlib.Decide.{ℕ_discrete, dec_lt}
 use native.Mathlib.Omega.{arith}
 use lib.Dec.{T, T_not, not_T, ltb, ltb→lt, lt→ltb, nltb→le}
-use Rattle.lines.specs.First.{first_on, first, any}
-use Rattle.lines.proofs.Tests.{T_same}
+use borrow.Author.Tests.{lt-ltb, le-ltb, ltb-true, ltb-false}
+use Rattle.std.specs.Prelude.{Some, None, List, length, get_or, position}
+use Rattle.lines.specs.First.{first_on, first, any, found}
+use Rattle.std.proofs.lemmas.List.Sums.{position_or_len_is}
+use Rattle.lines.proofs.Tests.{T_same, T_true, T_false}
 
 -- what a scan from 0 upwards finds
 pub record First (b : ℕ → Bool) (n v : ℕ) : Type 0 where
@@ -78,3 +81,38 @@ any_no b n t i h = not_T (b i) (λ u. T_not (any b n) t (any_yes b n i h u))
 -- what a search finds, that is a number or n, is below n where the number is
 pub ltb_min : (m n : ℕ) → ltb (min m n) n ≡ ltb m n
 ltb_min m n = T_same (ltb (min m n) n) (ltb m n) (λ t. lt→ltb m n (omega (arith, ltb→lt (min m n) n t))) (λ t. lt→ltb (min m n) n (omega (arith, ltb→lt m n t)))
+
+-- ---- an answer as an option
+
+pub found_some : (n v : ℕ) → v < n → found n v ≡ Some v
+unfolding found
+found_some n v h = rw (lt-ltb v n h)
+
+pub found_none : (n v : ℕ) → n ≤ v → found n v ≡ None
+unfolding found
+found_none n v h = rw (le-ltb v n h)
+
+-- and what the option says of the answer
+pub some_found : (n v w : ℕ) → found n v ≡ Some w → (v ≡ w) × (w < n)
+unfolding found
+some_found n v w e = go (ltb v n) refl e
+  where
+    go : (b : Bool) → ltb v n ≡ b → cond b (Some v) None ≡ Some w → (v ≡ w) × (w < n)
+    go true t k = let q : v ≡ w = cc in (q, omega (arith, ltb-true v n t))
+    go false t k = cc
+
+pub none_found : (n v : ℕ) → found n v ≡ None → n ≤ v
+unfolding found
+none_found n v e = go (ltb v n) refl e
+  where
+    go : (b : Bool) → ltb v n ≡ b → cond b (Some v) None ≡ None → n ≤ v
+    go true t k = cc
+    go false t k = ltb-false v n t
+
+-- the code's search along a list, which is the line's cells
+pub position_found : {A : Type 0} (p : A → Bool) (xs : List A) (d : A) (n : ℕ) → length xs ≡ n → position p xs ≡ found n (first (λ j. p (get_or xs j d)) n)
+unfolding found
+position_found p xs d n e =
+    let f = first_is (λ j. p (get_or xs j d)) n in
+    let at = position_or_len_is p xs _ d (omega (arith, f.most)) (λ k h. T_false _ (f.before k h)) (λ h. T_true _ (f.hit (omega arith))) in
+    rw (at, e)

@@ -15,11 +15,12 @@ use lib.Seq.{get_or-set_same, get_or-set_other, ext_get_or}
 use lib.Signed.{lt_z}
 use Rattle.lines.specs.Sum.{sum, sumℤ}
 use Rattle.lines.specs.Count.{bit, count}
-use Rattle.lines.specs.First.{first, any, least_on, least}
+use Rattle.std.specs.Prelude.{Some, None}
+use Rattle.lines.specs.First.{first, any, found, least_on, least}
 use Rattle.lines.specs.Square.{table, each}
 use Rattle.lines.specs.Sets.{with, those}
 use Rattle.lines.proofs.Tests.{T_true, T_same, by_cases}
-use Rattle.lines.proofs.Firsts.{first_at, first_none, any_yes, any_is}
+use Rattle.lines.proofs.Firsts.{first_at, first_none, any_yes, any_is, found_some, found_none}
 use Rattle.lines.proofs.Squares.{length_table, table_at, length_each, each_at}
 use Rattle.lines.proofs.Sets.{those_yes, those_no}
 
@@ -45,6 +46,13 @@ missed_all {b} n h m = sym (first_none b n (λ k l. rw (m.missed k (omega arith)
 -- the same, where the code gives the index itself
 pub missed_end : {b : ℕ → Bool} {i : ℕ} (n : ℕ) → i ≤ n → n ≤ i → Missed b i → i ≡ first b n
 missed_end {i = i} n l h m = let e : i ≡ n = omega arith in e ∙ missed_all n h m
+
+-- the same, where the code gives an option
+pub found_hit : {b : ℕ → Bool} {i : ℕ} (n : ℕ) → i < n → b i ≡ true → Missed b i → Some i ≡ found n (first b n)
+found_hit {b} {i} n h e m = sym (rw (← missed_hit n h e m) (found_some n i h))
+
+pub found_miss : {b : ℕ → Bool} {i : ℕ} (n : ℕ) → n ≤ i → Missed b i → None ≡ found n (first b n)
+found_miss {b} n h m = sym (rw (← missed_all n h m) (found_none n n (omega arith)))
 
 -- whether there is one
 pub hit_any : (b : ℕ → Bool) (n i : ℕ) → i < n → b i ≡ true → any b n ≡ true

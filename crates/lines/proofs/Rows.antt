@@ -3,14 +3,19 @@ use mathlib.Core.Path.{◌≡◌, refl, sym, ap, ◌∙◌}
 use mathlib.Core.Logic.{◌≢◌, dite}
 use mathlib.Core.Bool.{Bool, cond}
 use mathlib.Core.List.{List}
-use Prim.Native.Nat.{ℕ, ◌+◌, ◌*◌, ◌/◌, ◌%◌, ◌≤◌, ◌<◌}
+use Prim.Native.Nat.{ℕ, ◌+◌, ◌-◌, ◌*◌, ◌/◌, ◌%◌, ◌≤◌, ◌<◌}
 use native.Mathlib.Nat.{mod-lt, mul-le-mul_right, div-eq_of_lt-le, add_assoc, zero-mul}
 use native.Mathlib.Decide.{dec_lt}
 use native.Mathlib.Omega.{arith}
 use lib.Dec.{eqb}
 use lib.ListN.{length, get_or, set}
 use lib.Seq.{ext_get_or}
-use Rattle.lines.specs.Square.{square, each, each_row}
+use Rattle.std.specs.Prelude.{drop, position, slice_range}
+use Rattle.std.proofs.lemmas.List.{length-take, length-drop, get_or-take, get_or-drop}
+use Rattle.lines.specs.First.{first, found}
+use Rattle.lines.specs.Square.{cell, square, each, each_row}
+use Rattle.lines.proofs.Bounds.{row_end}
+use Rattle.lines.proofs.Firsts.{first_ext, position_found}
 use Rattle.lines.proofs.Tests.{T_true, T_false, eqb_yes, eqb_no}
 use Rattle.lines.proofs.Squares.{place_of, place_back, length_each, each_at, each_cell}
 use Rattle.lines.proofs.Loops.{Passed, passed_none, passed_store, passed_keep, passed_all, filled_all}
@@ -18,6 +23,19 @@ use Rattle.lines.proofs.Loops.{Passed, passed_none, passed_store, passed_keep, p
 -- the places of row i
 pub row_places : (n i q : ℕ) → 0 < n → q / n ≡ i → (i * n ≤ q) × (q < i * n + n)
 row_places n i q h e = let p : i * n + q % n ≡ q = rw e at (place_back n q) in (omega arith, omega (arith, mod-lt q h))
+
+-- ---- one row as a list
+
+module _ {A : Type 0} (d : A) (xs : List A) (n i : ℕ) (size : length xs ≡ n * n) (h : i < n) where
+  pub row_length : length (slice_range xs (i * n) (i * n + n)) ≡ n
+  row_length = omega (arith, length-take (i * n + n - i * n) (drop (i * n) xs), length-drop (i * n) xs, row_end n i h)
+
+  pub row_cell : (j : ℕ) → j < n → get_or (slice_range xs (i * n) (i * n + n)) j d ≡ cell d n xs i j
+  row_cell j l = get_or-take _ (drop (i * n) xs) j d (omega arith) ∙ get_or-drop (i * n) xs j d
+
+  -- the code's search along it
+  pub row_found : (p : A → Bool) → position p (slice_range xs (i * n) (i * n + n)) ≡ found n (first (λ j. p (cell d n xs i j)) n)
+  row_found p = position_found p _ d n row_length ∙ ap (found n) (first_ext _ _ n (λ j l. ap p (row_cell j l)))
 
 -- ---- one row, a column a turn
 

@@ -9,6 +9,7 @@ use native.Mathlib.Omega.{arith}
 use lib.Arith.{digits_lt, digits_div, digits_mod}
 use lib.ListN.{length, get_or, set, get_or-eq_default}
 use lib.Seq.{get_or-set_same, get_or-set_other}
+use Rattle.std.specs.Prelude.{replicate}
 use Rattle.lines.specs.Square.{cell, table, square, each_from, each}
 use Rattle.lines.specs.Put.{put}
 use Rattle.lines.proofs.Puts.{put_at, put_off, put2, put2_at, put2_off}
@@ -77,6 +78,12 @@ module _ {A : Type 0} where
   table_at d f zero i h = absurd (omega arith)
   table_at d f (suc n) zero h = refl
   table_at d f (suc n) (suc i) h = table_at d (λ i. f (suc i)) n i (omega arith)
+
+  -- the same element everywhere
+  pub table_same : (x : A) (n : ℕ) → replicate n x ≡ table (λ i. x) n
+  unfolding table
+  table_same x zero = refl
+  table_same x (suc n) = ap (λ l. x ∷ l) (table_same x n)
 
   -- functions that agree below n
   pub table_ext : (f g : ℕ → A) (n : ℕ) → ((i : ℕ) → i < n → f i ≡ g i) → table f n ≡ table g n

@@ -11,6 +11,7 @@ use borrow.Author.Tests.{not-true, not-false}
 use lib.Pow.{pow_pos}
 use Rattle.lines.specs.First.{first}
 use Rattle.lines.specs.Sets.{has, without, rest}
+use Rattle.lines.specs.Walk.{Meets}
 use Rattle.lines.proofs.Tests.{T_true, T_false, clash}
 use Rattle.lines.proofs.Firsts.{first_is, first_at, first_none}
 use Rattle.lines.proofs.Sets.{has_empty, has_rest, rest_lt, without_le, without_lt, without_same, without_other}
@@ -109,6 +110,18 @@ module _ {n s : ℕ} {P : ℕ → Type 0} {left t : ℕ} (d : ℕ) (small : n �
     less = λ next k. rw (k, ← e) (without_lt left t here);
     on = λ Q next k q f. rw (k, ← e) (goes_on Q q f);
   }
+
+-- the same by one step of the code's walk, which meets t and leaves `next`
+pub record Turn (n s : ℕ) (P : ℕ → Type 0) (t next : ℕ) : Type 1 where
+  pub below : t < n
+  pub member : has s t ≡ true
+  pub kept : P t
+  pub on : (Q : ℕ → Type 0) → Q (t + 1) → Passes n s Q → Walk n s Q next
+
+pub walk_turn : {n s : ℕ} {P : ℕ → Type 0} {left t next : ℕ} → n ≤ 64 → Meets left t next → Walk n s P left → Turn n s P t next
+walk_turn small m w =
+    let met = walk_meets 64 small m.some m.lowest w in
+    record { below = met.below; member = met.member; kept = met.kept; on = λ Q q f. met.on Q _ m.left q f }
 
 -- ---- the sets that are walked over
 

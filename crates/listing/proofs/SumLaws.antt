@@ -1,16 +1,22 @@
 -- Sums that 64 bits hold: one more value of a sum.
-use mathlib.Core.Path.{◌≡◌, refl, sym, ◌∙◌}
+use mathlib.Core.Path.{◌≡◌, refl, sym, ap, ◌∙◌}
 use mathlib.Core.List.{List}
 use Prim.Native.Nat.{ℕ, ◌+◌, ◌≤◌}
 use native.Mathlib.Omega.{arith}
-use lib.IntN.{ℤ, pos, ◌+ℤ◌}
+use lib.IntN.{ℤ, pos, negsuc, ◌+ℤ◌}
 use lib.ListN.{get_or}
 use mir.Syntax.{w64}
 use mir.Val.{SFits, to_z, of_z}
 use mir.Facts.{to_z-of_z}
+use Rattle.std.specs.Int.{saturate_signed}
 use Rattle.lines.specs.Sum.{sumℤ}
 use Rattle.lines.proofs.Loops.{sumℤ_more}
 use Rattle.listing.specs.Listed.{Sum}
+
+-- the nearest number that 64 bits hold is the sum, where they hold it
+pub saturated : (z : ℤ) → SFits w64 z → saturate_signed w64 z ≡ z
+saturated (pos n) f = ap pos (omega (arith, f))
+saturated (negsuc n) f = ap negsuc (omega (arith, f))
 
 -- what a local of 64 bits gives back
 abbrev kept : ℤ → ℤ

@@ -1,4 +1,4 @@
-// The pairing of a price list as text in a lent buffer, and the sums of prices in it.
+// The pairing of a price list, put into a text, and the sums of prices in it.
 #![tactic(auto)]
 
 mod list;

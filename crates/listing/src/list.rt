@@ -1,150 +1,77 @@
 // The pairing: each pair with its prices, their sums and the total, so that each line adds up by hand.
-ghost use Rattle.std.specs.Prelude.{◌≡◌, ◌≤◌, ◌<◌};
-ghost use Rattle.text.specs.Text.{put};
+ghost use Rattle.std.specs.Prelude.{◌<◌};
+ghost use Rattle.text.specs.Puts.{Puts};
 ghost use Rattle.listing.specs.Listed.{Listed};
 ghost use Rattle.listing.specs.List.{head, pair_of, pair_lines, event_price_lines, total_line, pairing_lines};
 
+use entries::{Prices, Solved};
+use text::Text;
+
 // The title, how large the case is, and how to read a price below 0.
-pub fn put_head(out: &mut [u8], n: usize, window: u32) -> usize
-    ensures { (result, out.new) ≡ put out.old 0 (head n window) }
+pub fn put_head(text: &mut Text, solved: &Solved)
+    ensures { Puts text.old (head solved.now.n solved.now.window) text.new }
 {
-    let after_title = text::put(out, 0, b"PRICE LIST\n");
-    let after_size = entries::put_size(out, after_title, n, window);
-    let after_units = text::put(out, after_size, b"; differences and prices in ms.\n");
-    text::put(
-        out,
-        after_units,
-        b"A price may be negative; only sums of prices count.\n\n",
-    )
+    text.put(b"PRICE LIST\n");
+    entries::put_size(text, solved.n, solved.window);
+    text.put(b"; differences and prices in ms.\n");
+    text.put(b"A price may be negative; only sums of prices count.\n\n");
 }
 
 // The line of a row of the pairing.
-fn put_pair_of(
-    huts: &[u16; 64],
-    n: usize,
-    costs: &[i32; 4096],
-    columns: &[u16; 64],
-    row_prices: &[i64; 64],
-    column_prices: &[i64; 64],
-    row: usize,
-    out: &mut [u8],
-    used: usize,
-) -> usize
-    requires { Listed n columns.now × (row < n) }
-    ensures { (result, out.new) ≡ put out.old used (pair_of huts.now n costs.now columns.now
-        row_prices.now column_prices.now row) }
+fn put_pair_of(text: &mut Text, solved: &Solved, row: usize)
+    requires { Listed solved.now.n solved.now.columns × (row < solved.now.n) }
+    ensures { Puts text.old (pair_of solved.now.huts solved.now.n solved.now.costs solved.now.columns
+        solved.now.row_prices solved.now.column_prices row) text.new }
 {
-    let event = columns[row] as usize;
-    let place = row * n + event;
-    let difference = costs[place] as i64;
-    let hut = huts[row];
+    let event = solved.columns[row] as usize;
     entries::put_pair(
-        out,
-        used,
+        text,
         row,
-        hut,
+        solved.huts[row],
         event,
-        difference,
-        row_prices[row],
-        column_prices[event],
-    )
+        solved.prices(row, event),
+    );
 }
 
-// The pairs, and their sums.
-fn put_pairs(
-    huts: &[u16; 64],
-    n: usize,
-    costs: &[i32; 4096],
-    columns: &[u16; 64],
-    row_prices: &[i64; 64],
-    column_prices: &[i64; 64],
-    out: &mut [u8],
-    used: usize,
-) -> usize
-    requires { Listed n columns.now }
-    ensures { (result, out.new) ≡ put out.old used (pair_lines huts.now n costs.now columns.now
-        row_prices.now column_prices.now) }
+// The pairs.
+fn put_pairs(text: &mut Text, solved: &Solved)
+    requires { Listed solved.now.n solved.now.columns }
+    ensures { Puts text.old (pair_lines solved.now.huts solved.now.n solved.now.costs solved.now.columns
+        solved.now.row_prices solved.now.column_prices) text.new }
 {
-    let mut at = text::put(
-        out,
-        used,
-        b"  row    hut  event   difference =     row price +   event price\n",
-    );
-    let mut row = 0;
-    while row < n {
-        at = put_pair_of(
-            huts,
-            n,
-            costs,
-            columns,
-            row_prices,
-            column_prices,
-            row,
-            out,
-            at,
-        );
-        row += 1;
+    text.put(b"  row    hut  event   difference =     row price +   event price\n");
+    for row in 0..solved.n {
+        put_pair_of(text, solved, row);
     }
-    at
 }
 
 // The price of every event, in their order, and their sum.
-fn put_event_prices(
-    n: usize,
-    column_prices: &[i64; 64],
-    sum: i64,
-    out: &mut [u8],
-    used: usize,
-) -> usize
-    requires { n ≤ 64 }
-    ensures { (result, out.new) ≡ put out.old used (event_price_lines n column_prices.now sum) }
+fn put_event_prices(text: &mut Text, solved: &Solved, sum: i64)
+    ensures { Puts text.old (event_price_lines solved.now.n solved.now.column_prices sum) text.new }
 {
-    let mut at = text::put(out, used, b"\nevent     event price\n");
-    let mut event = 0;
-    while event < n {
-        at = entries::put_price(out, at, event, column_prices[event]);
-        event += 1;
+    text.put(b"\nevent     event price\n");
+    for event in 0..solved.n {
+        entries::put_price(text, event, solved.column_prices[event]);
     }
-    entries::put_price_sum(out, at, sum)
+    entries::put_price_sum(text, sum);
 }
 
-fn put_total(out: &mut [u8], used: usize, total: i64) -> usize
-    ensures { (result, out.new) ≡ put out.old used (total_line total) }
+fn put_total(text: &mut Text, total: i64)
+    ensures { Puts text.old (total_line total) text.new }
 {
-    let after_word = text::put(out, used, b"\nTOTAL ");
-    let after_total = text::put_signed(out, after_word, total);
-    text::put(out, after_total, b"\n")
+    text.put(b"\nTOTAL ");
+    text.put_number(total);
+    text.put(b"\n");
 }
 
 // The pairing: its pairs with their prices, the sums of the prices, the price of every event, and the total.
-pub fn put_pairing(
-    huts: &[u16; 64],
-    n: usize,
-    total: i64,
-    all_rows: i64,
-    all_events: i64,
-    costs: &[i32; 4096],
-    columns: &[u16; 64],
-    row_prices: &[i64; 64],
-    column_prices: &[i64; 64],
-    out: &mut [u8],
-    used: usize,
-) -> usize
-    requires { Listed n columns.now }
-    ensures { (result, out.new) ≡ put out.old used (pairing_lines huts.now n total all_rows all_events
-        costs.now columns.now row_prices.now column_prices.now) }
+pub fn put_pairing(text: &mut Text, solved: &Solved, sums: Prices)
+    requires { Listed solved.now.n solved.now.columns }
+    ensures { Puts text.old (pairing_lines solved.now.huts solved.now.n sums.difference sums.row_price sums.event_price
+        solved.now.costs solved.now.columns solved.now.row_prices solved.now.column_prices) text.new }
 {
-    let after_pairs = put_pairs(
-        huts,
-        n,
-        costs,
-        columns,
-        row_prices,
-        column_prices,
-        out,
-        used,
-    );
-    let after_sums = entries::put_sums(out, after_pairs, total, all_rows, all_events);
-    let after_prices = put_event_prices(n, column_prices, all_events, out, after_sums);
-    put_total(out, after_prices, total)
+    put_pairs(text, solved);
+    entries::put_sums(text, sums);
+    put_event_prices(text, solved, sums.event_price);
+    put_total(text, sums.difference);
 }

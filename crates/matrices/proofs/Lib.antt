@@ -1,4 +1,5 @@
 pub mod Flags
 pub mod Zeros
 pub mod Rows
+pub mod Zips
 pub mod Walk

@@ -12,13 +12,14 @@ use lib.ListN.{length, set, length-set}
 use lib.Pow.{pow_pos}
 use Rattle.lines.specs.Sum.{sum}
 use Rattle.lines.specs.Count.{count}
-use Rattle.lines.specs.First.{first, any}
+use Rattle.std.specs.Prelude.{Some, None}
+use Rattle.lines.specs.First.{first, any, found}
 use Rattle.lines.specs.Square.{cell, table, square}
 use Rattle.lines.specs.Sets.{has, with}
 use Rattle.lines.proofs.Tests.{T_true, T_same, eqb_yes, by_cases}
 use Rattle.lines.proofs.Puts.{put2, put2_at, put2_off}
 use Rattle.lines.proofs.Counts.{count_le}
-use Rattle.lines.proofs.Firsts.{first_is, first_ext, first_none, any_yes}
+use Rattle.lines.proofs.Firsts.{first_is, first_ext, first_none, any_yes, some_found, none_found}
 use Rattle.lines.proofs.Sets.{ext, has_empty, has_those, has_with, those_lt, with_lt}
 use Rattle.lines.proofs.Squares.{cell_set, length_square, square_all}
 use Rattle.lines.proofs.Loops.{any_more, count_yes, count_no}
@@ -57,27 +58,29 @@ module _ (n : ℕ) (ok : ℕ → ℕ → Bool) (working : List ℤ) where
       let none : (j : ℕ) → star_in_column n (square (λ i j. 0) n) j ≡ n = λ j. first_none _ n (λ i hi. rw (square_all {A = ℕ} 0 n i j) tt) in
       rw e (record { size = length_square (λ i j. 0) n; made = refl; same = λ j hj. has_empty j ∙ sym (le-ltb _ n (omega (arith, none j))) })
 
-  module _ (marks : List ℕ) (taken row column : ℕ) (s : Taken n ok working marks taken row)
-      (found : column ≡ first (λ j. zero_at n ok working row j && not (has taken j)) n) where
-    free : column ≡ free_zero n ok working marks row
+  module _ (marks : List ℕ) (taken row : ℕ) (s : Taken n ok working marks taken row) where
+    free : first (λ j. zero_at n ok working row j && not (has taken j)) n ≡ free_zero n ok working marks row
     unfolding free_zero
-    free = found ∙ first_ext _ _ n (λ j h. ap (λ x. zero_at n ok working row j && not x) (s.same j h))
+    free = first_ext _ _ n (λ j h. ap (λ x. zero_at n ok working row j && not x) (s.same j h))
 
     next : star_row n ok working row marks ≡ step2 n ok working (square (λ i j. 0) n) (row + 1)
     unfolding step2
     next = ap (star_row n ok working row) s.made ∙ sym (ap (step2 n ok working (square (λ i j. 0) n)) (add-one row))
 
-    pub taken_star : row < n → column < n → Taken n ok working (set marks (row * n + column) 1) (with taken column) (row + 1)
+    pub taken_star : (column : ℕ) → row < n → Some column ≡ found n (first (λ j. zero_at n ok working row j && not (has taken j)) n)
+        → Taken n ok working (set marks (row * n + column) 1) (with taken column) (row + 1)
     unfolding star_row
-    taken_star hr hc = record {
-      size = length-set marks (row * n + column) 1 ∙ s.size;
-      made = rw (← free, lt-ltb column n hc) refl ∙ next;
-      same = λ j hj. has_with taken column j ∙ ap (λ x. eqb column j || x) (s.same j hj) ∙ sym (column_starred n marks row column j s.size hr hc hj);
-    }
+    taken_star column hr e =
+        let zero = some_found n _ column (sym e) in
+        record {
+          size = length-set marks (row * n + column) 1 ∙ s.size;
+          made = rw (← free, zero.0, lt-ltb column n zero.1) refl ∙ next;
+          same = λ j hj. has_with taken column j ∙ ap (λ x. eqb column j || x) (s.same j hj) ∙ sym (column_starred n marks row column j s.size hr zero.1 hj);
+        }
 
-    pub taken_skip : n ≤ column → Taken n ok working marks taken (row + 1)
+    pub taken_skip : None ≡ found n (first (λ j. zero_at n ok working row j && not (has taken j)) n) → Taken n ok working marks taken (row + 1)
     unfolding star_row
-    taken_skip l = record { size = s.size; made = rw (← free, le-ltb column n l) refl ∙ next; same = s.same }
+    taken_skip e = record { size = s.size; made = rw (← free, le-ltb _ n (none_found n _ (sym e))) refl ∙ next; same = s.same }
 
 -- the start, from what each part of it leaves
 pub start_made : (n : ℕ) (ok : ℕ → ℕ → Bool) (cost : ℕ → ℕ → ℤ) (r : Run) (working : List ℤ) (marks : List ℕ) (row_prices column_prices : List ℤ)
@@ -110,23 +113,27 @@ module _ (n : ℕ) (marks : List ℕ) (one : OneStarARow n marks) where
       (λ t. eqb_yes _ j (one i j hi hj (eqb→eq _ 1 t)))
       (λ t. let e : star_in_row n marks i ≡ j = eqb→eq _ j t in rw (sym e) ((first_is (λ j. eqb (cell 0 n marks i j) 1) n).hit (omega arith)))
 
-  module _ (columns stars k column : ℕ) (g : Gathered n marks columns stars k) (found : column ≡ star_in_row n marks k) (h : k < n) where
-    next_row : (j : ℕ) → j < n → any (λ i. eqb (cell 0 n marks i j) 1) (k + 1) ≡ (eqb column j || has columns j)
-    next_row j hj = any_more _ k ∙ ap₂ ◌||◌ (star_cell k j h hj ∙ ap (λ x. eqb x j) (sym found)) (sym (g.same j hj))
+  module _ (columns stars k : ℕ) (g : Gathered n marks columns stars k) (h : k < n) where
+    next_row : (j : ℕ) → j < n → any (λ i. eqb (cell 0 n marks i j) 1) (k + 1) ≡ (eqb (star_in_row n marks k) j || has columns j)
+    next_row j hj = any_more _ k ∙ ap₂ ◌||◌ (star_cell k j h hj) (sym (g.same j hj))
 
-    pub gathered_star : column < n → Gathered n marks (with columns column) (stars + 1) (k + 1)
-    gathered_star l = record {
-      low = with_lt n columns column g.low l;
-      same = λ j hj. has_with columns column j ∙ sym (next_row j hj);
-      counted = ap (λ x. x + 1) g.counted ∙ sym (count_yes _ k (lt-ltb _ n (omega arith)));
-    }
+    pub gathered_star : (column : ℕ) → Some column ≡ found n (star_in_row n marks k) → Gathered n marks (with columns column) (stars + 1) (k + 1)
+    gathered_star column e =
+        let star = some_found n _ column (sym e) in
+        record {
+          low = with_lt n columns column g.low star.1;
+          same = λ j hj. has_with columns column j ∙ rw star.0 at (sym (next_row j hj));
+          counted = ap (λ x. x + 1) g.counted ∙ sym (count_yes _ k (lt-ltb _ n (omega (arith, star.0, star.1))));
+        }
 
-    pub gathered_skip : n ≤ column → Gathered n marks columns stars (k + 1)
-    gathered_skip l = record {
-      low = g.low;
-      same = λ j hj. sym (next_row j hj ∙ rw (ne_eqb column j (omega arith)));
-      counted = g.counted ∙ sym (count_no _ k (le-ltb _ n (omega arith)));
-    }
+    pub gathered_skip : None ≡ found n (star_in_row n marks k) → Gathered n marks columns stars (k + 1)
+    gathered_skip e =
+        let none = none_found n _ (sym e) in
+        record {
+          low = g.low;
+          same = λ j hj. sym (next_row j hj ∙ rw (ne_eqb (star_in_row n marks k) j (omega arith)));
+          counted = g.counted ∙ sym (count_no _ k (le-ltb _ n none));
+        }
 
 -- all rows: step 3's columns, and its next step
 module _ (n : ℕ) (marks : List ℕ) (columns stars k : ℕ) (g : Gathered n marks columns stars k) (e : k ≡ n) (r : Run) where

@@ -8,59 +8,49 @@ ghost use Rattle.ground.specs.View.{view};
 ghost use Rattle.ground.specs.Good.{ForStart, Good, Came};
 ghost use Rattle.munkres.specs.ForSteps.{ForStep3, ForStep4, ForStep5, ForStep6};
 
-use ground::prices::Least;
+use ground::marks::{PRIME, STAR, UNMARKED, find_first_star_in_row};
+use ground::matrix::Matrix;
+use ground::prices::{adjust_prices, clear_prices};
 use ground::run::{Next, Run};
-use ground::{marks, prices, run, sets};
-use matrices::{coverage, mark_matrix, path, weight_matrix};
+use ground::sets::cover;
+use matrices::coverage::{find_uncovered_cell_column_row_order, find_zero_in_row};
+use matrices::mark_matrix::clear_primes;
+use matrices::path::{find_path, toggle_path};
+use matrices::weight_matrix::{follow_prices, least_uncovered, sub_min_of_each_row};
 
 // ---- steps 1 and 2
 
-fn clear_marks(marks: &mut [u8])
-    ensures { marks.new ≡ table (λ k. 0) (length marks.old) }
-{
-    let mut place = 0;
-    while place < marks.len() {
-        marks[place] = 0;
-        place += 1;
-    }
-}
-
 // Row by row, left to right, the first zero whose column has no star yet.
-fn step_2(n: usize, mask: &[u8], working: &[i64], marks: &mut [u8])
-    requires { Grid n mask.now working.now × (marks.old ≡ square (λ i j. 0) n) }
-    ensures { marks.new ≡ step2 n (allows n mask.now) working.now (square (λ i j. 0) n) n }
+fn step_2(matrix: Matrix, working: &[i64], marks: &mut [u8])
+    requires { Grid matrix.n matrix.mask.now working.now × (marks.old ≡ square (λ i j. 0) matrix.n) }
+    ensures { let m = matrix.entry in marks.new ≡ step2 m.n (allows m.n m.mask.now) working.now (square (λ i j. 0) m.n) m.n }
 {
     let mut taken = 0u64;
-    let mut row = 0;
-    while row < n {
-        let column = coverage::find_zero_in_row(n, mask, working, taken, row);
-        if column < n {
-            marks[row * n + column] = 1;
-            taken = sets::cover(taken, column);
+    for row in 0..matrix.n {
+        if let Some(column) = find_zero_in_row(matrix, working, taken, row) {
+            marks[row * matrix.n + column] = STAR;
+            taken = cover(taken, column);
         }
-        row += 1;
     }
 }
 
 // Steps 1 and 2.
 pub(crate) fn start(
-    n: usize,
-    costs: &[i32],
-    mask: &[u8],
+    matrix: Matrix,
     working: &mut [i64],
     marks: &mut [u8],
     row_prices: &mut [i64],
     column_prices: &mut [i64],
 ) -> Run
-    requires { ForStart n costs.now mask.now working.old marks.old row_prices.old column_prices.old }
-    ensures { machine (view result) working.new marks.new row_prices.new column_prices.new
-        ≡ steps_start n (allows n mask.now) (cost_at n costs.now) }
+    requires { ForStart matrix.n matrix.costs.now matrix.mask.now working.old marks.old row_prices.old column_prices.old }
+    ensures { let m = matrix.entry in machine (view result) working.new marks.new row_prices.new column_prices.new
+        ≡ steps_start m.n (allows m.n m.mask.now) (cost_at m.n m.costs.now) }
 {
-    weight_matrix::sub_min_of_each_row(n, costs, mask, working, row_prices);
-    prices::clear_prices(column_prices);
-    clear_marks(marks);
-    step_2(n, mask, working, marks);
-    run::begun()
+    sub_min_of_each_row(matrix, working, row_prices);
+    clear_prices(column_prices);
+    marks.fill(UNMARKED);
+    step_2(matrix, working, marks);
+    Run::begun()
 }
 
 // ---- steps 3 to 6
@@ -72,41 +62,34 @@ fn step_3(n: usize, run: Run, marks: &[u8]) -> Run
 {
     let mut columns = 0u64;
     let mut stars = 0;
-    let mut row = 0;
-    while row < n {
-        let column = marks::find_first_star_in_row(n, marks, row);
-        if column < n {
-            columns = sets::cover(columns, column);
+    for row in 0..n {
+        if let Some(column) = find_first_star_in_row(n, marks, row) {
+            columns = cover(columns, column);
             stars += 1;
         }
-        row += 1;
     }
     let next = if stars == n {
         Next::Paired
     } else {
         Next::Step4
     };
-    run::crossing(run, columns, next)
+    run.crossing(columns, next)
 }
 
 // The first uncovered zero is primed. Where its row has a star, the row is covered and the star's column uncovered.
-fn step_4(n: usize, mask: &[u8], run: Run, working: &[i64], marks: &mut [u8]) -> Run
-    requires { ForStep4 n mask.now run.primes working.now marks.old }
-    ensures { (view result, marks.new) ≡ step4 n (allows n mask.now) working.now (view run) marks.old }
+fn step_4(matrix: Matrix, run: Run, working: &[i64], marks: &mut [u8]) -> Run
+    requires { ForStep4 matrix.n matrix.mask.now run.primes working.now marks.old }
+    ensures { let m = matrix.entry in (view result, marks.new) ≡ step4 m.n (allows m.n m.mask.now) working.now (view run) marks.old }
 {
-    let rows = run.rows;
-    let columns = run.columns;
-    let found = coverage::find_uncovered_cell_column_row_order(n, mask, working, rows, columns);
-    match found {
-        coverage::Cell::At(row, column) => {
-            marks[row * n + column] = 2;
-            let star = marks::find_first_star_in_row(n, marks, row);
-            if star < n {
-                return run::covering(run, row, star);
-            }
-            run::reaching(run, row, column)
-        }
-        coverage::Cell::Nothing => run::to(run, Next::Step6),
+    let n = matrix.n;
+    let found = find_uncovered_cell_column_row_order(matrix, working, run.rows, run.columns);
+    let Some((row, column)) = found else {
+        return run.to(Next::Step6);
+    };
+    marks[row * n + column] = PRIME;
+    match find_first_star_in_row(n, marks, row) {
+        Some(star) => run.covering(row, star),
+        None => run.reaching(row, column),
     }
 }
 
@@ -115,49 +98,48 @@ fn step_5(n: usize, run: Run, row: usize, column: usize, marks: &mut [u8]) -> Ru
     requires { ForStep5 n run.augmentations row column marks.old }
     ensures { (view result, marks.new) ≡ step5 n row column (view run) marks.old }
 {
-    let mut rows = [0usize; 127];
-    let mut columns = [0usize; 127];
-    let count = path::find_path(n, marks, row, column, &mut rows, &mut columns);
-    path::toggle_path(n, marks, &rows, &columns, count);
-    mark_matrix::clear_primes(marks);
-    run::augmenting(run)
+    let path = find_path(n, marks, row, column);
+    toggle_path(n, marks, &path);
+    clear_primes(marks);
+    run.augmenting()
 }
 
 // By the least uncovered value, covered rows become cheaper and uncovered columns dearer.
 fn step_6(
-    n: usize,
-    mask: &[u8],
+    matrix: Matrix,
     budget: u32,
     run: Run,
     working: &mut [i64],
     row_prices: &mut [i64],
     column_prices: &mut [i64],
 ) -> Run
-    requires { ForStep6 n mask.now budget (view run) working.old row_prices.old column_prices.old }
-    ensures { (view result, working.new, row_prices.new, column_prices.new)
-        ≡ step6 n (allows n mask.now) budget (view run) working.old row_prices.old column_prices.old }
+    requires { ForStep6 matrix.n matrix.mask.now budget (view run) working.old row_prices.old column_prices.old }
+    ensures { let m = matrix.entry in (view result, working.new, row_prices.new, column_prices.new)
+        ≡ step6 m.n (allows m.n m.mask.now) budget (view run) working.old row_prices.old column_prices.old }
 {
-    let rows = run.rows;
-    let columns = run.columns;
-    let least = weight_matrix::least_uncovered(n, mask, working, rows, columns);
-    match least {
-        Least::Nothing => run::to(run, Next::NoPairing),
-        Least::Value(change) => {
-            if run.adjustments == budget {
-                return run::to(run, Next::Unfinished);
-            }
-            weight_matrix::follow_prices(n, mask, rows, columns, change, working);
-            prices::adjust_prices(n, rows, columns, change, row_prices, column_prices);
-            run::adjusting(run)
-        }
+    let least = least_uncovered(matrix, working, run.rows, run.columns);
+    let Some(change) = least else {
+        return run.to(Next::NoPairing);
+    };
+    if run.adjustments == budget {
+        return run.to(Next::Unfinished);
     }
+    follow_prices(matrix, run.rows, run.columns, change, working);
+    adjust_prices(
+        matrix.n,
+        run.rows,
+        run.columns,
+        change,
+        row_prices,
+        column_prices,
+    );
+    run.adjusting()
 }
 
-// ---- the run
+// ---- the run: the buffers are passed one by one, as a struct of them would have each contract say that it holds the same four references still
 
 fn step(
-    n: usize,
-    mask: &[u8],
+    matrix: Matrix,
     budget: u32,
     run: Run,
     working: &mut [i64],
@@ -165,26 +147,22 @@ fn step(
     row_prices: &mut [i64],
     column_prices: &mut [i64],
 ) -> Run
-    requires { Good n mask.now budget (machine (view run) working.old marks.old row_prices.old column_prices.old) }
-    ensures { machine (view result) working.new marks.new row_prices.new column_prices.new
-        ≡ steps_step n (allows n mask.now) budget (machine (view run) working.old marks.old row_prices.old column_prices.old) }
+    requires { Good matrix.n matrix.mask.now budget (machine (view run) working.old marks.old row_prices.old column_prices.old) }
+    ensures { let m = matrix.entry in machine (view result) working.new marks.new row_prices.new column_prices.new
+        ≡ steps_step m.n (allows m.n m.mask.now) budget (machine (view run) working.old marks.old row_prices.old column_prices.old) }
 {
-    let next = run.next;
-    match next {
-        Next::Step3 => step_3(n, run, marks),
-        Next::Step4 => step_4(n, mask, run, working, marks),
-        Next::Step5(row, column) => step_5(n, run, row, column, marks),
-        Next::Step6 => step_6(n, mask, budget, run, working, row_prices, column_prices),
-        Next::Paired => run,
-        Next::NoPairing => run,
-        Next::Unfinished => run,
+    match run.next {
+        Next::Step3 => step_3(matrix.n, run, marks),
+        Next::Step4 => step_4(matrix, run, working, marks),
+        Next::Step5(row, column) => step_5(matrix.n, run, row, column, marks),
+        Next::Step6 => step_6(matrix, budget, run, working, row_prices, column_prices),
+        Next::Paired | Next::NoPairing | Next::Unfinished => run,
     }
 }
 
 // Step after step, until an end.
 pub(crate) fn run_steps(
-    n: usize,
-    mask: &[u8],
+    matrix: Matrix,
     budget: u32,
     run: Run,
     working: &mut [i64],
@@ -192,19 +170,14 @@ pub(crate) fn run_steps(
     row_prices: &mut [i64],
     column_prices: &mut [i64],
 ) -> Run
-    requires { Good n mask.now budget (machine (view run) working.old marks.old row_prices.old column_prices.old) }
-    ensures { Came n mask.now budget (machine (view run) working.old marks.old row_prices.old column_prices.old)
+    requires { Good matrix.n matrix.mask.now budget (machine (view run) working.old marks.old row_prices.old column_prices.old) }
+    ensures { let m = matrix.entry in Came m.n m.mask.now budget (machine (view run) working.old marks.old row_prices.old column_prices.old)
         (machine (view result) working.new marks.new row_prices.new column_prices.new) }
 {
     let mut state = run;
-    loop {
-        let next = state.next;
-        if run::is_over(next) {
-            return state;
-        }
+    'steps: while !state.next.is_over() {
         state = step(
-            n,
-            mask,
+            matrix,
             budget,
             state,
             working,
@@ -213,4 +186,5 @@ pub(crate) fn run_steps(
             column_prices,
         );
     }
+    state
 }

@@ -1,10 +1,9 @@
--- Pairing a case: the budget, the solver's promise on what was lent, and what is given back by the room and by the verdict.
+-- Pairing a case: the solver's promise on what was lent, and what is given back by the room and by the verdict.
 use mathlib.Core.Path.{◌≡◌, refl, sym, ap, ◌∙◌}
 use mathlib.Core.Logic.{◌≢◌}
 use mathlib.Core.Bool.{true, false}
 use mathlib.Core.List.{List, ◌++◌}
-use Prim.Native.Nat.{ℕ, ◌-◌, ◌*◌, ◌≤◌}
-use native.Mathlib.Nat.{mul-le-mul}
+use Prim.Native.Nat.{ℕ, ◌*◌, ◌≤◌}
 use native.Mathlib.Omega.{arith}
 use lib.IntN.{ℤ}
 use lib.ListN.{length, take, drop}
@@ -23,15 +22,6 @@ use Rattle.pairing.specs.Pair.{Loan, loan, enough_room, front, behind, unpaired,
 use Rattle.pairing.proofs.Fronts.{Fronts, cells_lent, fronts, front_room}
 use Rattle.storm_case.proofs.ScanLaws.{never_more, accepted_filled, refused_some}
 use Rattle.pairing.proofs.AboutLaws.{about_file}
-
--- ---- the budget
-
-pub enough_none : {n : ℕ} → n ≡ 0 → 0 ≡ enough n
-unfolding enough
-enough_none e = rw e
-
-pub budget_fits : {n : ℕ} → n ≤ 64 → n * (n - 1) ≤ 4032
-budget_fits {n} h = let l : n - 1 ≤ 63 = omega arith in mul-le-mul h l
 
 -- ---- the solver's promise on what was lent of each buffer
 

@@ -1,2 +1,3 @@
 pub mod Pair
 pub mod Told
+pub mod Room

@@ -4,12 +4,17 @@
 ghost use Rattle.std.specs.Prelude.{◌≡◌, true, ◌&&◌, ◌*◌, ◌≤◌, take};
 ghost use Rattle.steps.specs.Lent.{buffers};
 ghost use Rattle.steps.specs.Refusal.{has_room};
+ghost use Rattle.storm_case.specs.Refused.{number_of};
 ghost use Rattle.storm_case.specs.Case.{has_cells};
 ghost use Rattle.pairing.specs.Pair.{loan, enough_room, unpaired as pair_unpaired, paired as pair_paired, enough as pair_enough, SolvedBy, PairPromise};
 
-use steps::Answer;
+mod room;
 
-// 0 paired, 6 no pairing, or the number of a refusal with its place; the size and the window; the summed clock difference at 0; the block at 6.
+pub use room::Room;
+use steps::Answer;
+use storm_case::{Refusal, Rule, Size};
+
+// What C gets: 0 paired, 6 no pairing, or the number of a refusal with its place; the size and the window; the summed clock difference at 0; the block at 6.
 #[repr(C)]
 #[derive(Drop)]
 pub struct Pairs {
@@ -22,12 +27,12 @@ pub struct Pairs {
     pub block_columns: u64,
 }
 
-fn unpaired(number: u32, place: usize) -> Pairs
-    ensures { result ≡ pair_unpaired number place }
+fn unpaired(refusal: Refusal) -> Pairs
+    ensures { result ≡ pair_unpaired (number_of refusal.rule) refusal.place }
 {
     Pairs {
-        number,
-        place,
+        number: refusal.rule.number(),
+        place: refusal.place,
         n: 0,
         window: 0,
         total: 0,
@@ -36,14 +41,14 @@ fn unpaired(number: u32, place: usize) -> Pairs
     }
 }
 
-fn paired(n: usize, window: u32, answer: Answer) -> Pairs
-    ensures { result ≡ pair_paired n window answer }
+fn paired(size: Size, answer: Answer) -> Pairs
+    ensures { result ≡ pair_paired size.n size.window answer }
 {
     Pairs {
         number: answer.number,
         place: answer.place,
-        n,
-        window,
+        n: size.n,
+        window: size.window,
         total: answer.total,
         block_rows: answer.block_rows,
         block_columns: answer.block_columns,
@@ -55,34 +60,19 @@ fn enough(n: usize) -> u32
     requires { n ≤ 64 }
     ensures { result ≡ pair_enough n }
 {
-    if n == 0 {
-        return 0;
-    }
-    (n * (n - 1) / 2) as u32
+    (n * n.saturating_sub(1) / 2) as u32
 }
 
 // Exactly 4,096 places for each square and 64 for each line?
-fn has_room(
-    costs: usize,
-    mask: usize,
-    working: usize,
-    marks: usize,
-    columns: usize,
-    row_prices: usize,
-    column_prices: usize,
-) -> bool
-    ensures { result ≡ (has_cells costs mask && has_room 4096 64 working marks columns row_prices column_prices) }
+fn has_room(costs: usize, mask: usize, rest: rules::Room) -> bool
+    ensures { result ≡ (has_cells costs mask && has_room 4096 64 rest.working rest.marks rest.columns rest.row_prices rest.column_prices) }
 {
-    if !storm_case::has_cells(costs, mask) {
-        return false;
-    }
-    rules::has_room(4096, 64, working, marks, columns, row_prices, column_prices)
+    storm_case::has_cells(costs, mask) && rules::has_room(4096, 64, rest)
 }
 
-// Solves the first n * n cells, on the front of the buffers.
+// Solves the first n * n cells, on the front of the buffers, one by one as C lends them.
 fn solve_cells(
-    n: usize,
-    window: u32,
+    size: Size,
     costs: &[i32],
     mask: &[u8],
     working: &mut [i64],
@@ -91,29 +81,29 @@ fn solve_cells(
     row_prices: &mut [i64],
     column_prices: &mut [i64],
 ) -> Pairs
-    requires { (n ≤ 64) × (enough_room (loan costs.now mask.now
+    requires { (size.n ≤ 64) × (enough_room (loan costs.now mask.now
         (buffers working.old marks.old columns.old row_prices.old column_prices.old)) ≡ true) }
-    ensures { SolvedBy n (take (n * n) costs.now) (take (n * n) mask.now) window
+    ensures { SolvedBy size.n (take (size.n * size.n) costs.now) (take (size.n * size.n) mask.now) size.window
         (buffers working.old marks.old columns.old row_prices.old column_prices.old) result
         (buffers working.new marks.new columns.new row_prices.new column_prices.new) }
 {
+    let n = size.n;
     let cells = n * n;
-    let budget = enough(n);
     let answer = quick::solve_assignment(
         n,
         &costs[..cells],
         &mask[..cells],
-        budget,
+        enough(n),
         &mut working[..cells],
         &mut marks[..cells],
         &mut columns[..n],
         &mut row_prices[..n],
         &mut column_prices[..n],
     );
-    paired(n, window, answer)
+    paired(size, answer)
 }
 
-// Pairs the fragments of a file with its events.
+// Pairs the fragments of a file with its events. The buffers come one by one, as C lends them (`serbihun_pair_case`).
 pub fn pair_case(
     file: &[u8],
     costs: &mut [i32],
@@ -129,33 +119,27 @@ pub fn pair_case(
         (loan costs.new mask.new
         (buffers working.new marks.new columns.new row_prices.new column_prices.new)) }
 {
-    if !has_room(
-        costs.len(),
-        mask.len(),
-        working.len(),
-        marks.len(),
-        columns.len(),
-        row_prices.len(),
-        column_prices.len(),
-    ) {
-        return unpaired(20, 0);
+    let rest = rules::Room {
+        working: working.len(),
+        marks: marks.len(),
+        columns: columns.len(),
+        row_prices: row_prices.len(),
+        column_prices: column_prices.len(),
+    };
+    if !has_room(costs.len(), mask.len(), rest) {
+        return unpaired(Rule::Room.at(0));
     }
-    let case = storm_case::read_case(file, costs, mask);
-    let number = case.number;
-    let n = case.n;
-    let window = case.window;
-    if number != 0 {
-        return unpaired(number, case.place);
+    match storm_case::read_case(file, costs, mask) {
+        Ok(size) => solve_cells(
+            size,
+            costs,
+            mask,
+            working,
+            marks,
+            columns,
+            row_prices,
+            column_prices,
+        ),
+        Err(refusal) => unpaired(refusal),
     }
-    solve_cells(
-        n,
-        window,
-        costs,
-        mask,
-        working,
-        marks,
-        columns,
-        row_prices,
-        column_prices,
-    )
 }

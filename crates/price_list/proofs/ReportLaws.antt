@@ -20,16 +20,14 @@ module _ {short : Bool} {file : List ℕ} {p : Pairs} {l : Loan} (x : PairPromis
   reported : (text : List ℕ) → text_of short file p l ≡ text → (r, after) ≡ put out 0 text → Reported short file out r after
   reported text same e = record { pairs = p; filled = l; promise = x; printed = rw same e }
 
-  -- at 0 the list, with what `sum` gives for the prices; a local of the code holds the total and each sum
-  pub report_list : p.number ≡ 0 → {total rows events : ℤ} → total ≡ p.total
-      → {all_rows : ℤ} → rows ≡ all_rows → SumOf p.n l.rest.row_prices all_rows
-      → {all_events : ℤ} → events ≡ all_events → SumOf p.n l.rest.column_prices all_events
-      → (r, after) ≡ put out 0 (list_text short file hs p.n p.window total rows events
+  -- at 0 the list, with what `sum` gives for the prices
+  pub report_list : p.number ≡ 0 → {rows events : ℤ} → SumOf p.n l.rest.row_prices rows → SumOf p.n l.rest.column_prices events
+      → (r, after) ≡ put out 0 (list_text short file hs p.n p.window p.total rows events
       l.costs l.mask l.rest.working l.rest.columns l.rest.row_prices l.rest.column_prices) → Reported short file out r after
   unfolding text_of
-  report_list paired total_is {all_rows} rows_are rows-sum {all_events} events_are events_sum e =
+  report_list paired {rows} {events} rows_sum events_sum e =
       let up = adds_up x fresh_room paired in
-      reported _ (rw (paired, asked, total_is, rows_are, events_are, up.rows all_rows rows-sum, up.events all_events events_sum)) e
+      reported _ (rw (paired, asked, up.rows rows rows_sum, up.events events events_sum)) e
 
   pub report_block : p.number ≡ 6 → (r, after) ≡ put out 0 (block_text file hs p.n p.window p.block_rows p.block_columns l.mask) → Reported short file out r after
   unfolding text_of

@@ -1,13 +1,14 @@
 -- Theorems of the word: the test of two words tells whether they are one.
-use mathlib.Core.Path.{◌≡◌, refl}
+use mathlib.Core.Path.{◌≡◌, refl, subst}
 use mathlib.Core.Bool.{Bool, true, false, not}
 use mathlib.Core.List.{List}
 use Prim.Native.Nat.{ℕ}
 use lib.Dec.{T, eqb, eqb→eq}
 use lib.ListN.{length, get_or}
+use lib.Pointwise.{pointwise, bytes_decides}
 use lib.Seq.{ext_get_or}
 use Rattle.lines.specs.First.{any}
-use Rattle.lines.proofs.Tests.{T_or, both, and_left, and_right, eqb_yes, cases}
+use Rattle.lines.proofs.Tests.{T_true, T_same, T_or, both, and_left, and_right, eqb_yes, cases}
 use Rattle.lines.proofs.Firsts.{any_is, any_no}
 use Rattle.price_list.specs.Word.{same}
 
@@ -41,3 +42,10 @@ one_same word =
     let byte = get_or word found.0 0 in
     absurd (apart (eqb byte byte) (eqb_yes byte byte refl) found.2))
     (λ t. t))
+
+-- slices are compared as the definition has it
+pub compared : (word other : List ℕ) → pointwise eqb word other ≡ same word other
+compared word other =
+    T_same (pointwise eqb word other) (same word other)
+    (λ t. subst (λ l. T (same word l)) ((bytes_decides word other).0 (T_true _ t)) (one_same word))
+    (λ t. rw ((bytes_decides word other).1 (same_one word other t)) tt)

@@ -7,53 +7,43 @@ mod print;
 mod report;
 mod word;
 
-ghost use Rattle.std.specs.Prelude.{◌≤◌, length};
-
-use input::Input;
 use std::env::{Env, FillError};
+use std::io;
 
 // Was the program started with a word of this number? Its own name has number 0.
 fn has_word(rt: &impl Env, number: usize) -> bool {
     !matches!(rt.arg(number, &mut []), Err(FillError::NotPresent))
 }
 
-// How many words there are, the program's own name among them; three where there are more.
-fn count_words(rt: &impl Env) -> usize {
-    for number in 0..3 {
-        if !has_word(rt, number) {
-            return number;
-        }
-    }
-    3
+// Is the short list asked for? None where a word is another than the program takes, or one too many.
+fn asks_short(rt: &impl Env) -> Option<bool> {
+    let mut word = [0u8; 8];
+    // A longer word is another than it takes.
+    let length = rt.arg(1, &mut word).unwrap_or(0);
+    let short = word::is_short(&word[..length]);
+    let words = (0..3).take_while(|&number| has_word(rt, number)).count();
+    word::taken(words, short).then_some(short)
 }
 
-// The length of the first word behind the name, which is put at the front of the buffer; 0 where there is none, or where it is longer.
-fn first_word(rt: &impl Env, word: &mut [u8]) -> usize
-    ensures { result ≤ length word.new }
-{
-    rt.arg(1, word).unwrap_or(0)
-}
-
-// An accepted file has at most 1,032 bytes, and what is printed of a file at most 313,550.
-fn main(rt: HostRuntime) {
-    let mut given = [0u8; 8];
-    let length = first_word(&rt, &mut given);
-    let short = word::is_short(&given[..length]);
-    if !word::taken(count_words(&rt), short) {
-        let _ = rt.eprintln("price_list: the only word that it takes is short");
-        return;
-    }
+// What fails is named beside the error. An accepted file has at most 1,032 bytes, and what is printed of a file at most 313,550.
+fn print_list(rt: &HostRuntime, short: bool) -> Result<(), (&'static str, io::Error)> {
     let mut file = [0u8; 4096];
-    let count = match input::read(&mut rt.stdin(), &mut file) {
-        Input::Read(count) => count,
-        Input::Failed(error) => {
-            let _ = input::fail(&mut rt.stderr(), b"price_list: standard input", error);
-            return;
-        }
-    };
+    let count = input::read(&mut rt.stdin(), &mut file).map_err(|error| (
+        "price_list: standard input",
+        error,
+    ))?;
     let mut out = [0u8; 524288];
     let used = report::report(short, &file[..count], &mut out);
-    if let Err(error) = rt.write_all(&out[..used]) {
-        let _ = input::fail(&mut rt.stderr(), b"price_list: standard output", error);
+    rt.write_all(&out[..used])
+        .map_err(|error| ("price_list: standard output", error))
+}
+
+fn main(rt: HostRuntime) {
+    let Some(short) = asks_short(&rt) else {
+        let _ = rt.eprintln("price_list: the only word that it takes is short");
+        return;
+    };
+    if let Err((what, error)) = print_list(&rt, short) {
+        let _ = input::fail(&mut rt.stderr(), what.as_bytes(), error);
     }
 }

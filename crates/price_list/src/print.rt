@@ -1,91 +1,45 @@
 // What is printed of a pairing, and where there is none.
-ghost use Rattle.std.specs.Prelude.{◌≡◌, ◌≤◌};
-ghost use Rattle.text.specs.Text.{put};
+ghost use Rattle.std.specs.Prelude.{◌≤◌};
+ghost use Rattle.text.specs.Puts.{Puts};
 ghost use Rattle.listing.specs.Listed.{Listed};
 ghost use Rattle.price_list.specs.Report.{case_above, list_text, block_text};
 
+use entries::{Prices, Solved};
+use text::Text;
+
 // The case above a list; a short list has it not.
-fn put_case_above(short: bool, file: &[u8], n: usize, out: &mut [u8], used: usize) -> usize
+fn put_case_above(text: &mut Text, short: bool, file: &[u8], n: usize)
     requires { n ≤ 64 }
-    ensures { (result, out.new) ≡ put out.old used (case_above short file.now n) }
+    ensures { Puts text.old (case_above short file.now n) text.new }
 {
     if short {
-        return text::put(out, used, b"");
+        return;
     }
-    let after_case = case_words::put_case(file, n, out, used);
-    text::put(out, after_case, b"\n")
+    case_words::put_case(text, file, n);
+    text.put(b"\n");
 }
 
 // The list, with the sums of the prices.
-pub(crate) fn put_list(
-    short: bool,
-    file: &[u8],
-    huts: &[u16; 64],
-    n: usize,
-    window: u32,
-    total: i64,
-    all_rows: i64,
-    all_events: i64,
-    costs: &[i32; 4096],
-    mask: &[u8; 4096],
-    working: &[i64; 4096],
-    columns: &[u16; 64],
-    row_prices: &[i64; 64],
-    column_prices: &[i64; 64],
-    out: &mut [u8],
-) -> usize
-    requires { Listed n columns.now }
-    ensures { (result, out.new) ≡ put out.old 0 (list_text short file.now huts.now n window total all_rows all_events
-        costs.now mask.now working.now columns.now row_prices.now column_prices.now) }
+pub(crate) fn put_list(text: &mut Text, short: bool, file: &[u8], solved: &Solved, sums: Prices)
+    requires { Listed solved.now.n solved.now.columns }
+    ensures { Puts text.old (list_text short file.now solved.now.huts solved.now.n solved.now.window
+        sums.difference sums.row_price sums.event_price solved.now.costs solved.now.mask solved.now.working
+        solved.now.columns solved.now.row_prices solved.now.column_prices) text.new }
 {
-    let after_head = listing::put_head(out, n, window);
-    let after_case = put_case_above(short, file, n, out, after_head);
-    let after_pairing = listing::put_pairing(
-        huts,
-        n,
-        total,
-        all_rows,
-        all_events,
-        costs,
-        columns,
-        row_prices,
-        column_prices,
-        out,
-        after_case,
-    );
-    spares::put_least(
-        short,
-        n,
-        total,
-        all_rows,
-        all_events,
-        costs,
-        mask,
-        working,
-        row_prices,
-        column_prices,
-        out,
-        after_pairing,
-    )
+    listing::put_head(text, solved);
+    put_case_above(text, short, file, solved.n);
+    listing::put_pairing(text, solved, sums);
+    spares::put_least(text, short, solved, sums);
 }
 
-// The case, what fits none, and the block.
-pub(crate) fn put_block(
-    file: &[u8],
-    huts: &[u16; 64],
-    n: usize,
-    window: u32,
-    rows: u64,
-    events: u64,
-    mask: &[u8; 4096],
-    out: &mut [u8],
-) -> usize
-    requires { n ≤ 64 }
-    ensures { (result, out.new) ≡ put out.old 0 (block_text file.now huts.now n window rows events mask.now) }
+// The case, what fits none, and the block, given by its rows and by its events.
+pub(crate) fn put_block(text: &mut Text, file: &[u8], solved: &Solved, rows: u64, events: u64)
+    ensures { Puts text.old (block_text file.now solved.now.huts solved.now.n solved.now.window rows events
+        solved.now.mask) text.new }
 {
-    let after_head = shortage::put_head(out, n, window);
-    let after_case = case_words::put_case(file, n, out, after_head);
-    let after_blank = text::put(out, after_case, b"\n");
-    let after_unfit = case_words::put_unfit(n, mask, huts, out, after_blank);
-    shortage::put_block(out, after_unfit, n, window, rows, events, huts)
+    shortage::put_head(text, solved);
+    case_words::put_case(text, file, solved.n);
+    text.put(b"\n");
+    case_words::put_unfit(text, solved);
+    shortage::put_block(text, solved, rows, events);
 }

@@ -10,56 +10,43 @@ use Rattle.lines.proofs.Signed.{within_zero}
 use Rattle.steps.specs.Lent.{allows}
 use Rattle.steps.specs.Steps as S
 use Rattle.steps.specs.Steps.{Machine}
-use Rattle.ground.specs.View.{view, view_next}
+use Rattle.ground.specs.View.{view_next}
 use Rattle.ground.specs.Good.{Adjusts}
 use Rattle.ground.specs.declared.run.Next.TheVariants.{Step3, Step4, Step5, Step6}
 use Rattle.ground.proofs.GoodLaws.{more_primes, more_augmentations, adjusts}
 use Rattle.keyed.specs.Keys.{limit, value_of}
 use Rattle.quick_steps.specs.Ways.{change}
 use Rattle.quick_steps.specs.Asks.{ForStep3, ForStep4, ForStep5, ForStep6}
-use Rattle.quick.specs.Shown.{Held, shown}
+use Rattle.quick.specs.Shown.{HeldBy, shown_by}
 use Rattle.quick_steps.specs.declared.State.{State}
+use Rattle.starred.specs.declared.stars.Stars.{Stars}
+use Rattle.keyed.specs.declared.opening.Opened.{Opened}
 use Rattle.quick.proofs.Choose.{some_open, least_found}
 use Rattle.quick.proofs.TableLaws.{above, safe}
 use Rattle.quick.proofs.HeldLaws.{searching_at, safe_during, names}
 use Rattle.quick.proofs.StepHeld.{walks, some_free}
 
-module _ (n : ℕ) (costs : List ℤ) (mask : List ℕ) (budget : ℕ) (s : State) (keys row_prices column_prices : List ℤ) (star owner prime cheapest : List ℕ) (key : List ℤ)
-    (h : Held n costs mask budget (shown n costs mask (view s.run) row_prices column_prices star prime) s.risen s.best keys star owner prime cheapest key) where
+module _ (n : ℕ) (costs : List ℤ) (mask : List ℕ) (budget : ℕ) (s : State) (keys row_prices column_prices : List ℤ) (stars : Stars) (opened : Opened)
+    (h : HeldBy n costs mask budget s keys row_prices column_prices stars opened) where
   abbrev m : Machine
-  m = shown n costs mask (view s.run) row_prices column_prices star prime
+  m = shown_by n costs mask s row_prices column_prices stars
 
-  pub asks_3 : s.run.next ≡ Step3 → ForStep3 n keys row_prices column_prices star owner cheapest key
+  pub asks_3 : s.run.next ≡ Step3 → ForStep3 n keys row_prices column_prices stars.star stars.owner opened.cheapest
   asks_3 e = record {
     safe = safe h.tabled (pos 0) (within_zero 1099511627776);
-    star_long = h.lines.star_long;
-    owner_long = h.lines.owner_long;
-    cheapest_long = h.cheapest_long;
-    key_long = h.key_long;
     some = some_free h (ap view_next e);
     known = h.known;
   }
 
-  pub asks_4 : s.run.next ≡ Step4 → ForStep4 n s keys row_prices column_prices star prime key
+  pub asks_4 : s.run.next ≡ Step4 → ForStep4 n s keys row_prices column_prices
   asks_4 e =
       let d = searching_at h S.Step4 (ap view_next e) in
-      record {
-        safe = safe_during h d;
-        names = names h d;
-        more = more_primes h.tabled.kept (ap view_next e);
-        star_long = h.lines.star_long;
-        prime_long = h.lines.prime_long;
-        key_long = h.key_long;
-      }
+      record { safe = safe_during h d; names = names h d; more = more_primes h.tabled.kept (ap view_next e) }
 
-  pub asks_5 : (i j : ℕ) → s.run.next ≡ Step5 i j → ForStep5 n s i j star owner prime
+  pub asks_5 : (i j : ℕ) → s.run.next ≡ Step5 i j → ForStep5 n s i j stars.owner stars.prime
   asks_5 i j e = record {
-    path = record {
-      follows = walks h i j (ap view_next e);
-      star_long = h.lines.star_long;
-      owner_long = h.lines.owner_long;
-      prime_long = h.lines.prime_long;
-    };
+    most = h.tabled.frame.word.most;
+    follows = walks h i j (ap view_next e);
     more = more_augmentations h.tabled.kept i j (ap view_next e);
   }
 

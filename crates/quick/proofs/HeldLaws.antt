@@ -2,11 +2,11 @@
 use mathlib.Core.Path.{◌≡◌, sym, subst, ◌∙◌}
 use mathlib.Core.Bool.{Bool, true}
 use mathlib.Core.List.{List}
-use Prim.Native.Nat.{ℕ, ◌+◌, ◌*◌, ◌≤◌, ◌<◌}
+use Prim.Native.Nat.{ℕ, ◌+◌, ◌*◌, ◌<◌}
 use native.Mathlib.Omega.{arith}
 use lib.IntN.{ℤ, pos, ◌+ℤ◌, ◌*ℤ◌}
 use lib.Signed.{lt_z}
-use lib.ListN.{length, get_or}
+use lib.ListN.{get_or}
 use Rattle.lines.specs.Square.{cell}
 use Rattle.lines.specs.Bounds.{Within}
 use Rattle.lines.proofs.Signed.{P, signed, plus_parts, minus_parts, neg_parts}
@@ -72,14 +72,12 @@ module _ {n : ℕ} {costs : List ℤ} {mask : List ℕ} {budget : ℕ} {m : Mach
   -- ---- the machine's step, told of the code's arrays
 
   pub held_next : {m' : Machine} {risen' best' : ℤ} {star' owner' prime' cheapest' : List ℕ} {key' : List ℤ} → S.step n ok budget m ≡ m'
-      → Lines n m'.marks star' owner' prime' → n ≤ length key' → n ≤ length cheapest' → Known n (starred n owner') keys m'.row_prices m'.column_prices cheapest'
+      → Lines n m'.marks star' owner' prime' → Known n (starred n owner') keys m'.row_prices m'.column_prices cheapest'
       → Searching m'.run.next n ok m' risen' best' key'
       → Held n costs mask budget (S.step n ok budget m) risen' best' keys star' owner' prime' cheapest' key'
-  held_next {m'} {risen'} {best'} {star'} {owner'} {prime'} {cheapest'} {key'} e l k c w s = record {
+  held_next {m'} {risen'} {best'} {star'} {owner'} {prime'} {cheapest'} {key'} e l w s = record {
     tabled = record { frame = h.tabled.frame; holds = h.tabled.holds; kept = kept_step h.tabled.kept; table = h.tabled.table };
     lines = subst (λ y. Lines n y.marks star' owner' prime') (sym e) l;
-    key_long = k;
-    cheapest_long = c;
     known = subst (λ y. Known n (starred n owner') keys y.row_prices y.column_prices cheapest') (sym e) w;
     searching = subst (λ y. Searching y.run.next n ok y risen' best' key') (sym e) s;
   }

@@ -1,10 +1,10 @@
 -- A run that is taken up from any state that keeps the invariants, at step 3 or at step 4: what is held then.
 use mathlib.Core.Path.{◌≡◌, refl, sym, subst}
 use mathlib.Core.List.{List}
-use Prim.Native.Nat.{ℕ, ◌≤◌, ◌<◌}
+use Prim.Native.Nat.{ℕ, ◌<◌}
 use native.Mathlib.Omega.{arith}
 use lib.IntN.{ℤ, pos, ◌-ℤ◌}
-use lib.ListN.{length, get_or}
+use lib.ListN.{get_or}
 use Rattle.lines.proofs.Signed.{signed, minus_parts}
 use Rattle.steps.specs.Lent.{allows}
 use Rattle.steps.specs.Steps as S
@@ -39,14 +39,11 @@ module _ {n : ℕ} {costs : List ℤ} {mask : List ℕ} {budget : ℕ} {m : Mach
       })
 
   -- no cheapest column is known
-  module _ {star owner prime cheapest : List ℕ} {key : List ℤ} (lines : Lines n m.marks star owner prime) (key_long : n ≤ length key) (cheapest_long : n ≤ length cheapest)
-      (none_known : (i : ℕ) → i < n → get_or cheapest i 0 ≡ n) where
+  module _ {star owner prime cheapest : List ℕ} {key : List ℤ} (lines : Lines n m.marks star owner prime) (none_known : (i : ℕ) → i < n → get_or cheapest i 0 ≡ n) where
     begins : {risen best : ℤ} → Searching m.run.next n (allows n mask) m risen best key → Held n costs mask budget m risen best keys star owner prime cheapest key
     begins s = record {
       tabled = h;
       lines = lines;
-      key_long = key_long;
-      cheapest_long = cheapest_long;
       known = λ i hi l f. absurd (omega (arith, none_known i hi));
       searching = s;
     }

@@ -25,7 +25,8 @@ use Rattle.steps.proofs.Search.{begun}
 use Rattle.steps.proofs.Marks.{find_row}
 use Rattle.ground.proofs.Arms.{arm_3, arm_4, arm_5, arm_6}
 use Rattle.ground.proofs.GoodLaws.{sound_at}
-use Rattle.keyed.specs.Keys.{limit, value_of, row_of, column_of, lesser, lowered_key, least_key}
+use Rattle.std.specs.Int.{int_min}
+use Rattle.keyed.specs.Keys.{limit, value_of, row_of, column_of, lowered_key, least_key}
 use Rattle.keyed.specs.Best.{key_at, Best}
 use Rattle.keyed.specs.Opening.{term_at, Known, Opens}
 use Rattle.starred.specs.Columns.{starred}
@@ -74,7 +75,7 @@ module _ {n : ℕ} {costs : List ℤ} {mask : List ℕ} {budget : ℕ} {m : Mach
 
     pub held_none : next ≡ machine (to S.Step6 m.run) m.working m.marks m.row_prices m.column_prices
         → Held n costs mask budget next risen best keys star owner prime cheapest key
-    held_none q = held_next h q h.lines h.key_long h.cheapest_long h.known (record {
+    held_none q = held_next h q h.lines h.known (record {
       rise = d.rise;
       risen_is = d.risen_is;
       keys = d.keys;
@@ -132,7 +133,7 @@ module _ {n : ℕ} {costs : List ℤ} {mask : List ℕ} {budget : ℕ} {m : Mach
 
       pub held_reaches : {risen' best' : ℤ} → n ≤ get_or star i 0 → Held n costs mask budget next risen' best' keys star owner (set prime i j) cheapest key
       unfolding reaching
-      held_reaches l = held_next h (reaches_made l) lines h.key_long h.cheapest_long h.known tt
+      held_reaches l = held_next h (reaches_made l) lines h.known tt
 
       -- in a row with one
       module _ (l : get_or star i 0 < n) where
@@ -149,17 +150,17 @@ module _ {n : ℕ} {costs : List ℤ} {mask : List ℕ} {budget : ℕ} {m : Mach
         abbrev term : ℕ → ℤ
         term = term_at n keys m.row_prices s (get_or m.column_prices s (pos 0) -ℤ risen)
 
-        pub held_covers : (key' : List ℤ) → n ≤ length key'
+        pub held_covers : (key' : List ℤ)
             → ((a : ℕ) → a < n → get_or key' a (pos 0) ≡ lowered_key (with m.run.rows i) term a (get_or key a (pos 0)))
-            → Held n costs mask budget next risen (least_key (with m.run.rows i) (λ a. lesser (get_or key a (pos 0)) (term a)) n) keys star owner (set prime i j) cheapest key'
+            → Held n costs mask budget next risen (least_key (with m.run.rows i) (λ a. int_min (get_or key a (pos 0)) (term a)) n) keys star owner (set prime i j) cheapest key'
         unfolding covering lowered_key
-        held_covers key' long new =
+        held_covers key' new =
             let k0 = keys_covered 64 n ok limit beyond m.working risen i d.keys in
             let k1 = keys_opened 64 n ok limit beyond m.working risen {rows = with m.run.rows i} {columns = m.run.columns} {key = λ a. get_or key a (pos 0)} {key' = λ a. get_or key' a (pos 0)} {term = term} s l (λ a ha u t. told_at h.tabled risen s l a ha t) (λ a ha u t. shut_at h.tabled risen (risen_small h d) s l a ha t)
             (λ a ha u. new a ha ∙ rw (T_false (has (with m.run.rows i) a) u)) k0 in
-            let k2 = keys_opened 64 n ok limit beyond m.working risen {rows = with m.run.rows i} {columns = m.run.columns} {key = λ a. get_or key a (pos 0)} {key' = λ a. lesser (get_or key a (pos 0)) (term a)} {term = term} s l (λ a ha u t. told_at h.tabled risen s l a ha t) (λ a ha u t. shut_at h.tabled risen (risen_small h d) s l a ha t)
+            let k2 = keys_opened 64 n ok limit beyond m.working risen {rows = with m.run.rows i} {columns = m.run.columns} {key = λ a. get_or key a (pos 0)} {key' = λ a. int_min (get_or key a (pos 0)) (term a)} {term = term} s l (λ a ha u t. told_at h.tabled risen s l a ha t) (λ a ha u t. shut_at h.tabled risen (risen_small h d) s l a ha t)
             (λ a ha u. refl) k0 in
-            held_next h covers_made lines long h.cheapest_long h.known (record {
+            held_next h covers_made lines h.known (record {
               rise = d.rise;
               risen_is = d.risen_is;
               keys = k1;
@@ -178,7 +179,7 @@ module _ {n : ℕ} {costs : List ℤ} {mask : List ℕ} {budget : ℕ} {m : Mach
         sym (arm_6 n ok budget m e (sym (keyed_blocked 64 n ok limit h.tabled.frame.word.most m.working m.run d.rise (above h.tabled) (least d) budget m.row_prices m.column_prices (limited d) f)))
 
     pub held_blocked : lt_z best limit ≡ false → Held n costs mask budget next risen best keys star owner prime cheapest key
-    held_blocked f = held_next h (blocked_made f) h.lines h.key_long h.cheapest_long h.known tt
+    held_blocked f = held_next h (blocked_made f) h.lines h.known tt
 
     module _ (near : lt_z best limit ≡ true) where
       pub spent_made : m.run.adjustments ≡ budget → next ≡ machine (to S.Unfinished m.run) m.working m.marks m.row_prices m.column_prices
@@ -186,7 +187,7 @@ module _ {n : ℕ} {costs : List ℤ} {mask : List ℕ} {budget : ℕ} {m : Mach
           sym (arm_6 n ok budget m e (sym (keyed_spent 64 n ok limit h.tabled.frame.word.most m.working m.run d.rise (above h.tabled) (least d) budget m.row_prices m.column_prices near q)))
 
       pub held_spent : m.run.adjustments ≡ budget → Held n costs mask budget next risen best keys star owner prime cheapest key
-      held_spent q = held_next h (spent_made q) h.lines h.key_long h.cheapest_long h.known tt
+      held_spent q = held_next h (spent_made q) h.lines h.known tt
 
       abbrev z : ℤ
       z = value_of 64 best -ℤ risen
@@ -225,7 +226,7 @@ module _ {n : ℕ} {costs : List ℤ} {mask : List ℕ} {budget : ℕ} {m : Mach
           let new : get_or (raised z m.run.columns m.column_prices) d.free (pos 0) ≡ c +ℤ z =
           free_raised d.free d.free_below d.bare in
           let same : (c +ℤ z) -ℤ v ≡ c -ℤ risen = omega (signed, minus_parts v risen, plus_parts c z, minus_parts (c +ℤ z) v, minus_parts c risen) in
-          held_next h (adjusts_made q) h.lines h.key_long h.cheapest_long known_risen (record {
+          held_next h (adjusts_made q) h.lines known_risen (record {
             rise = _;
             risen_is = refl;
             keys = rw (← rise) at (keys_adjusted 64 n ok limit m.working m.run.rows m.run.columns risen z h.tabled.kept.going.shape.working d.keys);
@@ -255,7 +256,7 @@ module _ {n : ℕ} {costs : List ℤ} {mask : List ℕ} {budget : ℕ} {m : Mach
     pub held_flips : {star' owner' prime' : List ℕ} (risen' best' : ℤ) → (star', owner') ≡ flipped n prime n star owner i j → prime' ≡ table (λ k. n) (length prime)
         → Held n costs mask budget next risen' best' keys star' owner' prime' cheapest key
     unfolding augmenting
-    held_flips risen' best' a b = held_next h flips_made (lines_flipped ready h.lines a b) h.key_long h.cheapest_long
+    held_flips risen' best' a b = held_next h flips_made (lines_flipped ready h.lines a b)
         (known_flipped n prime star owner i j keys m.row_prices m.column_prices cheapest walks h.lines.owner_long a h.known) tt
 
   -- ---- step 3
@@ -288,9 +289,9 @@ module _ {n : ℕ} {costs : List ℤ} {mask : List ℕ} {budget : ℕ} {m : Mach
     part_made q =
         sym (arm_3 n ok budget m e refl) ∙ rw (← columns_are, ← stars_are, ne_eqb (count (λ a. ltb (get_or star a 0) n) n) n q)
 
-    pub held_full : {key' : List ℤ} (risen' best' : ℤ) → n ≤ length key' → count (λ a. ltb (get_or star a 0) n) n ≡ n
+    pub held_full : {key' : List ℤ} (risen' best' : ℤ) → count (λ a. ltb (get_or star a 0) n) n ≡ n
         → Held n costs mask budget next risen' best' keys star owner prime cheapest key'
-    held_full risen' best' long q = held_next h (full_made q) h.lines long h.cheapest_long h.known tt
+    held_full risen' best' q = held_next h (full_made q) h.lines h.known tt
 
     -- a column without a star, by the marks and by the set
     free_column : count (λ a. ltb (get_or star a 0) n) n ≢ n → (b : ℕ) × (b < n) × (n ≤ star_in_column n m.marks b)
@@ -302,16 +303,16 @@ module _ {n : ℕ} {costs : List ℤ} {mask : List ℕ} {budget : ℕ} {m : Mach
         let bare = free_is n owner f.0 f.1 (rw (h.lines.owner_is f.0 f.1) f.2) in
         clash (has (rest n (starred n owner)) f.0) (has_rest n (starred n owner) f.0 f.1 ∙ rw bare) (rw (none, has_empty f.0))
 
-    pub held_part : {cheapest' : List ℕ} {key' : List ℤ} (best' : ℤ) → n ≤ length cheapest' → n ≤ length key' → count (λ a. ltb (get_or star a 0) n) n ≢ n
+    pub held_part : {cheapest' : List ℕ} {key' : List ℤ} (best' : ℤ) → count (λ a. ltb (get_or star a 0) n) n ≢ n
         → Opens n 0 (starred n owner) keys m.row_prices m.column_prices key' best'
         → Known n (starred n owner) keys m.row_prices m.column_prices cheapest'
         → Held n costs mask budget next (pos 0) best' keys star owner prime cheapest' key'
-    held_part {key' = key'} best' wide long q o w =
+    held_part {key' = key'} best' q o w =
         let f = free_column q in
         let x = o ok m.working (told_own h.tabled) (shut_own h.tabled) in
         let c = get_or m.column_prices f.0 (pos 0) in
         let same : c -ℤ pos 0 ≡ c = omega (signed, minus_parts c (pos 0)) in
-        held_next h (part_made q) h.lines long wide w (record {
+        held_next h (part_made q) h.lines w (record {
           rise = 0;
           risen_is = refl;
           keys = rw at_3.1 x.0;

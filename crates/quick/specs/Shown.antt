@@ -11,6 +11,8 @@ use Rattle.keyed.specs.Best.{Keys, Best}
 use Rattle.steps.specs.Steps as S
 use Rattle.steps.specs.Bounds as Bounds
 use Rattle.quick_steps.specs.declared.State.{State}
+use Rattle.starred.specs.declared.stars.Stars.{Stars}
+use Rattle.keyed.specs.declared.opening.Opened.{Opened}
 use Rattle.keyed.specs.Opening.{Known}
 use Rattle.starred.specs.Columns.{starred}
 use Rattle.starred.specs.Written.{working_of, marks_of}
@@ -64,8 +66,6 @@ pub record Tabled (n : ℕ) (costs : List ℤ) (mask : List ℕ) (budget : ℕ) 
 pub record Held (n : ℕ) (costs : List ℤ) (mask : List ℕ) (budget : ℕ) (m : Machine) (risen best : ℤ) (keys : List ℤ) (star owner prime cheapest : List ℕ) (key : List ℤ) : Type 0 where
   pub tabled : Tabled n costs mask budget m keys
   pub lines : Lines n m.marks star owner prime
-  pub key_long : n ≤ length key
-  pub cheapest_long : n ≤ length cheapest
   pub known : Known n (starred n owner) keys m.row_prices m.column_prices cheapest
   pub searching : Searching m.run.next n (allows n mask) m risen best key
 
@@ -74,12 +74,20 @@ abbrev pub shown : ℕ → List ℤ → List ℕ → S.Run → List ℤ → List
 shown n costs mask run row_prices column_prices star prime =
     machine run (working_of n costs mask row_prices column_prices) (marks_of n star prime) row_prices column_prices
 
+-- the same of the code's state: the machine that it shows, and that it holds that machine
+abbrev pub shown_by : ℕ → List ℤ → List ℕ → State → List ℤ → List ℤ → Stars → Machine
+shown_by n costs mask s row_prices column_prices stars = shown n costs mask (view s.run) row_prices column_prices stars.star stars.prime
+
+abbrev pub HeldBy : ℕ → List ℤ → List ℕ → ℕ → State → List ℤ → List ℤ → List ℤ → Stars → Opened → Type 0
+HeldBy n costs mask budget s keys row_prices column_prices stars opened =
+    Held n costs mask budget (shown_by n costs mask s row_prices column_prices stars) s.risen s.best keys stars.star stars.owner stars.prime opened.cheapest opened.key
+
 -- after one step of the code from the machine m: its state shows the machine's next, and holds it
-pub record Turned (n : ℕ) (costs : List ℤ) (mask : List ℕ) (budget : ℕ) (m : Machine) (s : State) (keys row_prices column_prices : List ℤ) (star owner prime cheapest : List ℕ) (key : List ℤ) : Type 0 where
-  pub made : shown n costs mask (view s.run) row_prices column_prices star prime ≡ S.step n (allows n mask) budget m
-  pub held : Held n costs mask budget (shown n costs mask (view s.run) row_prices column_prices star prime) s.risen s.best keys star owner prime cheapest key
+pub record Turned (n : ℕ) (costs : List ℤ) (mask : List ℕ) (budget : ℕ) (m : Machine) (s : State) (keys row_prices column_prices : List ℤ) (stars : Stars) (opened : Opened) : Type 0 where
+  pub made : shown_by n costs mask s row_prices column_prices stars ≡ S.step n (allows n mask) budget m
+  pub held : HeldBy n costs mask budget s keys row_prices column_prices stars opened
 
 -- some number of steps leads from the machine m to the one that the state shows and holds, which is at an end
-pub record Reached (n : ℕ) (costs : List ℤ) (mask : List ℕ) (budget : ℕ) (m : Machine) (s : State) (keys row_prices column_prices : List ℤ) (star owner prime cheapest : List ℕ) (key : List ℤ) : Type 0 where
-  pub came : Came n mask budget m (shown n costs mask (view s.run) row_prices column_prices star prime)
-  pub held : Held n costs mask budget (shown n costs mask (view s.run) row_prices column_prices star prime) s.risen s.best keys star owner prime cheapest key
+pub record Reached (n : ℕ) (costs : List ℤ) (mask : List ℕ) (budget : ℕ) (m : Machine) (s : State) (keys row_prices column_prices : List ℤ) (stars : Stars) (opened : Opened) : Type 0 where
+  pub came : Came n mask budget m (shown_by n costs mask s row_prices column_prices stars)
+  pub held : HeldBy n costs mask budget s keys row_prices column_prices stars opened

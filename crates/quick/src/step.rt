@@ -1,106 +1,73 @@
-// The run from step to step: which of the steps is next, until an end.
-ghost use Rattle.ground.specs.View.{view};
-ghost use Rattle.quick.specs.Shown.{Held, Turned, Reached, shown};
+// The run from step to step: which of the steps is next, until an end. The buffers that are written are passed one by one, as a struct of them would have each
+// contract say that it holds the same references still; keys and prices come together (`Priced`) where they are only read.
+ghost use Rattle.quick.specs.Shown.{HeldBy, Turned, Reached, shown_by};
 
-use ground::run;
+use ground::matrix::Matrix;
 use ground::run::Next;
+use keyed::opening::{Opened, Priced};
 use quick_steps::State;
+use starred::stars::Stars;
 
-// `costs` and `mask` are not read: they say what is simulated.
+// Of the matrix only the size is read: costs and mask say what is simulated.
 fn step(
-    n: usize,
-    costs: &[i32],
-    mask: &[u8],
+    matrix: Matrix,
     budget: u32,
     state: State,
     keys: &[i64],
     row_prices: &mut [i64],
     column_prices: &mut [i64],
-    star: &mut [usize],
-    owner: &mut [usize],
-    prime: &mut [usize],
-    cheapest: &mut [usize],
-    key: &mut [i64],
+    stars: &mut Stars,
+    opened: &mut Opened,
 ) -> State
-    requires { Held n costs.now mask.now budget (shown n costs.now mask.now (view state.run) row_prices.old column_prices.old star.old prime.old) state.risen state.best
-        keys.now star.old owner.old prime.old cheapest.old key.old }
-    ensures { Turned n costs.now mask.now budget (shown n costs.now mask.now (view state.run) row_prices.old column_prices.old star.old prime.old) result
-        keys.now row_prices.new column_prices.new star.new owner.new prime.new cheapest.new key.new }
+    requires { HeldBy matrix.n matrix.costs.now matrix.mask.now budget state keys.now row_prices.old column_prices.old stars.old opened.old }
+    ensures { let m = matrix.entry in
+        Turned m.n m.costs.now m.mask.now budget (shown_by m.n m.costs.now m.mask.now state row_prices.old column_prices.old stars.old) result
+        keys.now row_prices.new column_prices.new stars.new opened.new }
 {
-    let run = state.run;
-    let next = run.next;
-    match next {
-        Next::Step3 => quick_steps::step_3(
-            n,
-            state,
-            keys,
-            row_prices,
-            column_prices,
-            star,
-            owner,
-            cheapest,
-            key,
-        ),
-        Next::Step4 => quick_steps::step_4(
-            n,
-            state,
-            keys,
-            row_prices,
-            column_prices,
-            star,
-            prime,
-            key,
-        ),
-        Next::Step5(row, column) => quick_steps::step_5(n, state, row, column, star, owner, prime),
-        Next::Step6 => quick_steps::step_6(n, budget, state, row_prices, column_prices),
-        Next::Paired => state,
-        Next::NoPairing => state,
-        Next::Unfinished => state,
+    let n = matrix.n;
+    let priced = Priced {
+        n,
+        keys,
+        row_prices,
+        column_prices,
+    };
+    match state.run.next {
+        Next::Step3 => state.step_3(priced, stars, opened),
+        Next::Step4 => state.step_4(priced, stars, opened),
+        Next::Step5(row, column) => state.step_5(n, row, column, stars),
+        Next::Step6 => state.step_6(n, budget, row_prices, column_prices),
+        Next::Paired | Next::NoPairing | Next::Unfinished => state,
     }
 }
 
 // Step after step, until an end.
 pub(crate) fn run_steps(
-    n: usize,
-    costs: &[i32],
-    mask: &[u8],
+    matrix: Matrix,
     budget: u32,
     begun: State,
     keys: &[i64],
     row_prices: &mut [i64],
     column_prices: &mut [i64],
-    star: &mut [usize],
-    owner: &mut [usize],
-    prime: &mut [usize],
-    cheapest: &mut [usize],
-    key: &mut [i64],
+    stars: &mut Stars,
+    opened: &mut Opened,
 ) -> State
-    requires { Held n costs.now mask.now budget (shown n costs.now mask.now (view begun.run) row_prices.old column_prices.old star.old prime.old) begun.risen begun.best
-        keys.now star.old owner.old prime.old cheapest.old key.old }
-    ensures { Reached n costs.now mask.now budget (shown n costs.now mask.now (view begun.run) row_prices.old column_prices.old star.old prime.old) result
-        keys.now row_prices.new column_prices.new star.new owner.new prime.new cheapest.new key.new }
+    requires { HeldBy matrix.n matrix.costs.now matrix.mask.now budget begun keys.now row_prices.old column_prices.old stars.old opened.old }
+    ensures { let m = matrix.entry in
+        Reached m.n m.costs.now m.mask.now budget (shown_by m.n m.costs.now m.mask.now begun row_prices.old column_prices.old stars.old) result
+        keys.now row_prices.new column_prices.new stars.new opened.new }
 {
     let mut state = begun;
-    loop {
-        let run = state.run;
-        let next = run.next;
-        if run::is_over(next) {
-            return state;
-        }
+    'steps: while !state.run.next.is_over() {
         state = step(
-            n,
-            costs,
-            mask,
+            matrix,
             budget,
             state,
             keys,
             row_prices,
             column_prices,
-            star,
-            owner,
-            prime,
-            cheapest,
-            key,
+            stars,
+            opened,
         );
     }
+    state
 }

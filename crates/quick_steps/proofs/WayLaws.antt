@@ -14,7 +14,8 @@ use Rattle.lines.proofs.Signed.{signed, minus_parts, neg_parts}
 use Rattle.steps.specs.Steps.{covering, reaching}
 use Rattle.ground.specs.View.{view}
 use Rattle.ground.proofs.Wide.{back64}
-use Rattle.keyed.specs.Keys.{limit, value_of, row_of, column_of, names_zero, lesser, lowered_key, least_key}
+use Rattle.std.specs.Int.{int_min}
+use Rattle.keyed.specs.Keys.{limit, value_of, row_of, column_of, names_zero, lowered_key, least_key}
 use Rattle.keyed.specs.Opening.{term_at}
 use Rattle.quick_steps.specs.Ways.{Primed, reaches, covers}
 use Rattle.quick_steps.specs.declared.State.{State}
@@ -79,7 +80,7 @@ module _ (n : ℕ) (s : State) (keys row_prices column_prices : List ℤ) (star 
   pub told_covers : {r : State} {key' : List ℤ} (rows : ℕ) (price : ℤ) → get_or star row 0 < n
       → view r.run ≡ covering row (get_or star row 0) (view s.run) → r.risen ≡ s.risen
       → rows ≡ with s.run.rows row → price ≡ get_or column_prices (get_or star row 0) (pos 0) -ℤ s.risen
-      → r.best ≡ least_key rows (λ i. lesser (get_or key i (pos 0)) (term_at n keys row_prices (get_or star row 0) price i)) n
+      → r.best ≡ least_key rows (λ i. int_min (get_or key i (pos 0)) (term_at n keys row_prices (get_or star row 0) price i)) n
       → ((i : ℕ) → i < n → get_or key' i (pos 0) ≡ lowered_key rows (term_at n keys row_prices (get_or star row 0) price) i (get_or key i (pos 0)))
       → Primed n s keys row_prices column_prices star prime key r (set prime row column) key'
   told_covers rows price h e1 e2 e3 e4 e5 e6 =

@@ -12,40 +12,30 @@ use Rattle.keyed.specs.Keys.{limit}
 use Rattle.keyed.specs.Opening.{Known}
 use Rattle.starred.specs.Columns.{starred}
 use Rattle.keyed.specs.Asks.{Fills, Names, Safe}
-use Rattle.starred.specs.Asks.{FlipsPath}
+use Rattle.starred.specs.Flipping.{Follows}
 use Rattle.quick_steps.specs.Ways.{change}
 use Rattle.quick_steps.specs.declared.State.{State}
 
-pub record Starts (n : ℕ) (costs : List ℤ) (mask : List ℕ) (keys row_prices column_prices : List ℤ) (star owner prime cheapest : List ℕ) : Type 0 where
+pub record Starts (n : ℕ) (costs : List ℤ) (mask : List ℕ) (keys row_prices column_prices : List ℤ) : Type 0 where
   pub fills : Fills n costs mask keys
   pub rows : (i : ℕ) → i < n → T (any (allows n mask i) n)
   pub row_lines : length row_prices ≡ n
   pub column_lines : length column_prices ≡ n
-  pub star_long : n ≤ length star
-  pub owner_long : n ≤ length owner
-  pub prime_long : n ≤ length prime
-  pub cheapest_long : n ≤ length cheapest
 
-pub record ForStep3 (n : ℕ) (keys row_prices column_prices : List ℤ) (star owner cheapest : List ℕ) (key : List ℤ) : Type 0 where
+pub record ForStep3 (n : ℕ) (keys row_prices column_prices : List ℤ) (star owner cheapest : List ℕ) : Type 0 where
   pub safe : Safe n (pos 0) keys row_prices column_prices
-  pub star_long : n ≤ length star
-  pub owner_long : n ≤ length owner
-  pub cheapest_long : n ≤ length cheapest
-  pub key_long : n ≤ length key
   -- with a star missing, a column is free
   pub some : count (λ i. ltb (get_or star i 0) n) n ≢ n → rest n (starred n owner) ≢ 0
   pub known : Known n (starred n owner) keys row_prices column_prices cheapest
 
-pub record ForStep4 (n : ℕ) (s : State) (keys row_prices column_prices : List ℤ) (star prime : List ℕ) (key : List ℤ) : Type 0 where
+pub record ForStep4 (n : ℕ) (s : State) (keys row_prices column_prices : List ℤ) : Type 0 where
   pub safe : Safe n s.risen keys row_prices column_prices
   pub names : Names n s.best
   pub more : s.run.primes + 1 < 2 ^ 32
-  pub star_long : n ≤ length star
-  pub prime_long : n ≤ length prime
-  pub key_long : n ≤ length key
 
-pub record ForStep5 (n : ℕ) (s : State) (row column : ℕ) (star owner prime : List ℕ) : Type 0 where
-  pub path : FlipsPath n row column star owner prime
+pub record ForStep5 (n : ℕ) (s : State) (row column : ℕ) (owner prime : List ℕ) : Type 0 where
+  pub most : n ≤ 64
+  pub follows : Follows n prime n owner row column
   pub more : s.run.augmentations + 1 < 2 ^ 32
 
 -- where there is a least key and the budget is not spent it adjusts by its value less what has risen

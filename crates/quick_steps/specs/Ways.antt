@@ -6,7 +6,8 @@ use Rattle.lines.specs.Sets.{with}
 use Rattle.steps.specs.Steps.{run_with, to, covering, reaching, adjusting, lowered, raised}
 use Rattle.ground.specs.View.{view}
 use Rattle.ground.specs.declared.run.Run.{Run}
-use Rattle.keyed.specs.Keys.{limit, value_of, column_of, row_of, names_zero, lesser, lowered_key, least_key}
+use Rattle.std.specs.Int.{int_min}
+use Rattle.keyed.specs.Keys.{limit, value_of, column_of, row_of, names_zero, lowered_key, least_key}
 use Rattle.steps.specs.Steps as S
 use Rattle.quick_steps.specs.declared.State.{State}
 use Rattle.keyed.specs.Opening.{term_at, Opens, Known}
@@ -59,7 +60,7 @@ module _ (n : ℕ) (s : State) (keys row_prices column_prices : List ℤ) (star 
         → prime' ≡ set prime at_row at_column → key' ≡ key → Primed r prime' key'
     -- a zero in a row with one
     covers : names_zero 64 s.best s.risen ≡ true → at_star < n → view r.run ≡ covering at_row at_star (view s.run) → r.risen ≡ s.risen
-        → r.best ≡ least_key (with s.run.rows at_row) (λ i. lesser (get_or key i (pos 0)) (at_term i)) n
+        → r.best ≡ least_key (with s.run.rows at_row) (λ i. int_min (get_or key i (pos 0)) (at_term i)) n
         → prime' ≡ set prime at_row at_column
         → ((i : ℕ) → i < n → get_or key' i (pos 0) ≡ lowered_key (with s.run.rows at_row) at_term i (get_or key i (pos 0))) → Primed r prime' key'
 

@@ -1,7 +1,7 @@
-// Document 01's steps on keys and lines, one function for each. Only quick calls them, so they may have a `requires`.
+// Document 01's steps on keys and lines, one method for each. Only quick calls them, so they may have a `requires`.
 #![tactic(auto)]
 
-ghost use Rattle.std.specs.Prelude.{◌≡◌, ◌≤◌, pos, length};
+ghost use Rattle.std.specs.Prelude.{◌≡◌, pos, length};
 ghost use Rattle.lines.specs.Square.{table};
 ghost use Rattle.steps.specs.Steps.{augmenting};
 ghost use Rattle.ground.specs.View.{view};
@@ -11,232 +11,170 @@ ghost use Rattle.quick_steps.specs.Asks.{Starts, ForStep3, ForStep4, ForStep5, F
 ghost use Rattle.quick_steps.specs.Start.{Started};
 ghost use Rattle.quick_steps.specs.Ways.{TakenUp, Crossed, Primed, Adjusted};
 
+use ground::matrix::Matrix;
+use ground::prices;
 use ground::run::{Next, Run};
-use ground::{prices, run};
-use keyed::{keys, opening};
-use starred::{stars, values};
+use keyed::keys;
+use keyed::opening::{Opened, Priced};
+use starred::stars::Stars;
+use starred::values;
 
-// The run, what the adjustments of this phase add up to, and the least key.
-#[derive(Drop)]
+// The run, what the adjustments of this phase add up to, and the least key. Between two phases both are 0, and nothing reads them.
+#[derive(Clone, Copy)]
 pub struct State {
     pub run: Run,
     pub risen: i64,
     pub best: i64,
 }
 
-// ---- steps 1 and 2
-
-// The prices and the stars that the run begins with, and the keys of the costs.
+// Steps 1 and 2: the prices and the stars that the run begins with, and the keys of the costs. Each buffer is written, so none is part of a `Priced` yet.
 pub fn start(
-    n: usize,
-    costs: &[i32],
-    mask: &[u8],
+    matrix: Matrix,
     keys: &mut [i64],
     row_prices: &mut [i64],
     column_prices: &mut [i64],
-    star: &mut [usize],
-    owner: &mut [usize],
-    prime: &mut [usize],
-    cheapest: &mut [usize],
+    stars: &mut Stars,
+    opened: &mut Opened,
 ) -> State
-    requires { Starts n costs.now mask.now keys.old row_prices.old column_prices.old star.old owner.old prime.old cheapest.old }
-    ensures { Started n costs.now mask.now result keys.new row_prices.new column_prices.new star.new owner.new prime.new cheapest.new }
+    requires { Starts matrix.n matrix.costs.now matrix.mask.now keys.old row_prices.old column_prices.old }
+    ensures { let m = matrix.entry in
+        Started m.n m.costs.now m.mask.now result keys.new row_prices.new column_prices.new stars.new.star stars.new.owner stars.new.prime opened.new.cheapest }
 {
-    keys::fill(n, costs, mask, keys, cheapest);
-    values::set_row_prices(n, costs, cheapest, row_prices);
+    keys::fill(matrix, keys, &mut opened.cheapest);
+    values::set_row_prices(matrix, &opened.cheapest, row_prices);
     prices::clear_prices(column_prices);
-    stars::star_rows(n, costs, mask, row_prices, cheapest, star, owner);
-    stars::clear(n, prime);
-    stars::clear(n, cheapest);
-    let begun = run::begun();
+    stars.star_rows(matrix, row_prices, &opened.cheapest);
+    stars.clear_primes(matrix.n);
+    opened.cheapest.fill(matrix.n);
     State {
-        run: begun,
+        run: Run::begun(),
         risen: 0,
         best: 0,
     }
 }
 
 // A run taken up at step 4, with what it has covered: keys and least key are made anew.
-pub fn take_up(
-    n: usize,
-    run: Run,
-    keys: &[i64],
-    row_prices: &[i64],
-    column_prices: &[i64],
-    key: &mut [i64],
-) -> State
-    requires { Safe n (pos 0) keys.now row_prices.now column_prices.now × (n ≤ length key.old) }
-    ensures { TakenUp n run keys.now row_prices.now column_prices.now result key.new }
+pub fn take_up(run: Run, priced: Priced, opened: &mut Opened) -> State
+    requires { Safe priced.n (pos 0) priced.keys.now priced.row_prices.now priced.column_prices.now }
+    ensures { let p = priced.entry in TakenUp p.n run p.keys.now p.row_prices.now p.column_prices.now result opened.new.key }
 {
-    let best = opening::open_uncovered(
-        n,
-        run.rows,
-        run.columns,
-        keys,
-        row_prices,
-        column_prices,
-        key,
-    );
     State {
         run,
         risen: 0,
-        best,
+        best: opened.open_uncovered(priced, run.rows, run.columns),
     }
 }
 
-// ---- step 3
+impl State {
+    // The column of each star is covered; with n stars, finish. The other columns open.
+    pub fn step_3(self, priced: Priced, stars: &Stars, opened: &mut Opened) -> State
+        requires { ForStep3 priced.n priced.keys.now priced.row_prices.now priced.column_prices.now stars.now.star stars.now.owner opened.old.cheapest }
+        ensures { let p = priced.entry in
+            Crossed p.n self p.keys.now p.row_prices.now p.column_prices.now stars.now.star stars.now.owner opened.old.cheapest result opened.new.cheapest opened.new.key }
+    {
+        let columns = stars.starred_columns(priced.n);
+        if stars.count_stars(priced.n) == priced.n {
+            return State {
+                run: self.run.crossing(columns, Next::Paired),
+                risen: 0,
+                best: 0,
+            };
+        }
+        State {
+            run: self.run.crossing(columns, Next::Step4),
+            risen: 0,
+            best: opened.open_columns(priced, columns),
+        }
+    }
 
-// The column of each star is covered; with n stars, finish. The other columns open.
-pub fn step_3(
-    n: usize,
-    state: State,
-    keys: &[i64],
-    row_prices: &[i64],
-    column_prices: &[i64],
-    star: &[usize],
-    owner: &[usize],
-    cheapest: &mut [usize],
-    key: &mut [i64],
-) -> State
-    requires { ForStep3 n keys.now row_prices.now column_prices.now star.now owner.now cheapest.old key.old }
-    ensures { Crossed n state keys.now row_prices.now column_prices.now star.now owner.now cheapest.old result cheapest.new key.new }
-{
-    let run = state.run;
-    let columns = stars::starred_columns(n, owner);
-    if stars::count_stars(n, star) == n {
-        let paired = run::crossing(run, columns, Next::Paired);
-        return State {
-            run: paired,
+    // The first uncovered zero, which the least key names, is primed. Where its row has a star, the row is covered and the star's column opens.
+    pub fn step_4(self, priced: Priced, stars: &mut Stars, opened: &mut Opened) -> State
+        requires { ForStep4 priced.n self priced.keys.now priced.row_prices.now priced.column_prices.now }
+        ensures primed { let p = priced.entry in
+            Primed p.n self p.keys.now p.row_prices.now p.column_prices.now stars.old.star stars.old.prime opened.old.key result stars.new.prime opened.new.key }
+        ensures star { stars.new.star ≡ stars.old.star }
+        ensures owner { stars.new.owner ≡ stars.old.owner }
+        ensures cheapest { opened.new.cheapest ≡ opened.old.cheapest }
+    {
+        if !keys::names_zero(self.best, self.risen) {
+            return State {
+                run: self.run.to(Next::Step6),
+                ..self
+            };
+        }
+        let row = keys::row_of(self.best);
+        let column = keys::column_of(self.best);
+        stars.prime[row] = column;
+        let starred = stars.star[row];
+        if priced.n <= starred {
+            return State {
+                run: self.run.reaching(row, column),
+                ..self
+            };
+        }
+        let run = self.run.covering(row, starred);
+        let price = values::difference(priced.column_prices[starred], self.risen);
+        let least = opened.lower(priced, starred, price, run.rows);
+        State {
+            run,
+            best: least,
+            ..self
+        }
+    }
+
+    // Every row on the path takes its prime's column; covers and primes are cleared.
+    pub fn step_5(self, n: usize, row: usize, column: usize, stars: &mut Stars) -> State
+        requires { ForStep5 n self row column stars.old.owner stars.old.prime }
+        ensures run { view result.run ≡ augmenting (view self.run) }
+        ensures flipped { (stars.new.star, stars.new.owner) ≡ flipped n stars.old.prime n stars.old.star stars.old.owner row column }
+        ensures prime { stars.new.prime ≡ table (λ k. n) (length stars.old.prime) }
+    {
+        stars.flip_path(n, row, column);
+        stars.clear_primes(n);
+        State {
+            run: self.run.augmenting(),
             risen: 0,
             best: 0,
-        };
+        }
     }
-    let best = opening::open_columns(n, columns, keys, row_prices, column_prices, cheapest, key);
-    let crossed = run::crossing(run, columns, Next::Step4);
-    State {
-        run: crossed,
-        risen: 0,
-        best,
-    }
-}
 
-// ---- step 4
-
-// The first uncovered zero, which the least key names, is primed. Where its row has a star, the row is covered and the star's column opens.
-pub fn step_4(
-    n: usize,
-    state: State,
-    keys: &[i64],
-    row_prices: &[i64],
-    column_prices: &[i64],
-    star: &[usize],
-    prime: &mut [usize],
-    key: &mut [i64],
-) -> State
-    requires { ForStep4 n state keys.now row_prices.now column_prices.now star.now prime.old key.old }
-    ensures { Primed n state keys.now row_prices.now column_prices.now star.now prime.old key.old
-        result prime.new key.new }
-{
-    let run = state.run;
-    let risen = state.risen;
-    let best = state.best;
-    if !keys::names_zero(best, risen) {
-        let passed = run::to(run, Next::Step6);
-        return State {
-            run: passed,
-            risen,
-            best,
-        };
-    }
-    let row = keys::row_of(best);
-    let column = keys::column_of(best);
-    prime[row] = column;
-    let starred = star[row];
-    if n <= starred {
-        let reached = run::reaching(run, row, column);
-        return State {
-            run: reached,
-            risen,
-            best,
-        };
-    }
-    let covered = run::covering(run, row, starred);
-    let price = values::difference(column_prices[starred], risen);
-    let least = keys::lower(n, keys, row_prices, starred, price, covered.rows, key);
-    State {
-        run: covered,
-        risen,
-        best: least,
-    }
-}
-
-// ---- step 5
-
-// Every row on the path takes its prime's column; covers and primes are cleared.
-pub fn step_5(
-    n: usize,
-    state: State,
-    row: usize,
-    column: usize,
-    star: &mut [usize],
-    owner: &mut [usize],
-    prime: &mut [usize],
-) -> State
-    requires { ForStep5 n state row column star.old owner.old prime.old }
-    ensures { (view result.run ≡ augmenting (view state.run))
-        × ((star.new, owner.new) ≡ flipped n prime.old n star.old owner.old row column)
-        × (prime.new ≡ table (λ k. n) (length prime.old)) }
-{
-    stars::flip_path(n, row, column, star, owner, prime);
-    stars::clear(n, prime);
-    let run = state.run;
-    let augmented = run::augmenting(run);
-    State {
-        run: augmented,
-        risen: 0,
-        best: 0,
-    }
-}
-
-// ---- step 6
-
-// By the least uncovered value, which the least key holds, covered rows become cheaper and uncovered columns dearer.
-pub fn step_6(
-    n: usize,
-    budget: u32,
-    state: State,
-    row_prices: &mut [i64],
-    column_prices: &mut [i64],
-) -> State
-    requires { ForStep6 n budget state row_prices.old column_prices.old }
-    ensures { Adjusted budget state row_prices.old column_prices.old result row_prices.new column_prices.new }
-{
-    let run = state.run;
-    let risen = state.risen;
-    let best = state.best;
-    if !keys::is_near(best) {
-        let blocked = run::to(run, Next::NoPairing);
-        return State {
-            run: blocked,
-            risen,
-            best,
-        };
-    }
-    if run.adjustments == budget {
-        let spent = run::to(run, Next::Unfinished);
-        return State {
-            run: spent,
-            risen,
-            best,
-        };
-    }
-    let value = keys::value_of(best);
-    let change = values::difference(value, risen);
-    prices::adjust_prices(n, run.rows, run.columns, change, row_prices, column_prices);
-    let adjusted = run::adjusting(run);
-    State {
-        run: adjusted,
-        risen: value,
-        best,
+    // By the least uncovered value, which the least key holds, covered rows become cheaper and uncovered columns dearer.
+    pub fn step_6(
+        self,
+        n: usize,
+        budget: u32,
+        row_prices: &mut [i64],
+        column_prices: &mut [i64],
+    ) -> State
+        requires { ForStep6 n budget self row_prices.old column_prices.old }
+        ensures { Adjusted budget self row_prices.old column_prices.old result row_prices.new column_prices.new }
+    {
+        if !keys::is_near(self.best) {
+            return State {
+                run: self.run.to(Next::NoPairing),
+                ..self
+            };
+        }
+        if self.run.adjustments == budget {
+            return State {
+                run: self.run.to(Next::Unfinished),
+                ..self
+            };
+        }
+        let value = keys::value_of(self.best);
+        let change = values::difference(value, self.risen);
+        prices::adjust_prices(
+            n,
+            self.run.rows,
+            self.run.columns,
+            change,
+            row_prices,
+            column_prices,
+        );
+        State {
+            run: self.run.adjusting(),
+            risen: value,
+            ..self
+        }
     }
 }

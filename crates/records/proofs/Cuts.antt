@@ -10,8 +10,9 @@ use lib.Dec.{eqb, ltb, ltb→lt, lt→ltb}
 use lib.ListN.{length, get_or, take, drop, replicate, length-append, length-take, length-replicate}
 use lib.Seq.{take-take, get_or-take, get_or_at}
 use Rattle.lines.proofs.Tests.{T_same, cond_ind}
-use Rattle.records.specs.declared.Found.{Found}
-use Rattle.records.specs.declared.Found.TheVariants.{Body, Cut, Unknown}
+use Rattle.std.specs.Prelude.{Result, Ok, Err}
+use Rattle.records.specs.declared.Missing.{Missing}
+use Rattle.records.specs.declared.Missing.TheVariants.{Cut, Unknown}
 use Rattle.records.specs.Records.{known, body_length, found, part, body}
 use Rattle.records.proofs.RecordLaws.{past_end, short, whole, found_size}
 
@@ -56,10 +57,10 @@ module _ (k : ℕ) (file : List ℕ) where
   unfolding body part
   cut_body at h = rw (cut_found at h) (go (found file at) (λ n e. found_size file at e))
     where
-      go : (f : Found) → ((n : ℕ) → f ≡ Body n → n ≡ body_length (get_or file at 0)) → part (take k file) at f ≡ part file at f
-      go (Body n) size = part_before n (at + 1) k file (omega (arith, size n refl, body_short (get_or file at 0)))
-      go Cut size = refl
-      go Unknown size = refl
+      go : (f : Result ℕ Missing) → ((n : ℕ) → f ≡ Ok n → n ≡ body_length (get_or file at 0)) → part (take k file) at f ≡ part file at f
+      go (Ok n) size = part_before n (at + 1) k file (omega (arith, size n refl, body_short (get_or file at 0)))
+      go (Err Cut) size = refl
+      go (Err Unknown) size = refl
 
 -- Nine bytes and no fewer: of a file that ends in a fragment, a cut that takes its last byte loses it.
 module _ (k at : ℕ) (h : k < at + 9) where
@@ -72,7 +73,7 @@ module _ (k at : ℕ) (h : k < at + 9) where
   its_kind : get_or ends_in_fragment at 0 ≡ 2
   its_kind = get_or_at (replicate at 0) 2 (replicate 8 0) 0 at (length-replicate at 0)
 
-  pub found_lost : (found ends_in_fragment at ≡ Body 8) × (found (take k ends_in_fragment) at ≡ Cut)
+  pub found_lost : (found ends_in_fragment at ≡ Ok 8) × (found (take k ends_in_fragment) at ≡ Err Cut)
   unfolding body_length known
   found_lost = (
     sym (whole ends_in_fragment at (omega (arith, its_length)) (rw its_kind) (rw its_kind) (omega (arith, its_length))),

@@ -2,45 +2,73 @@
 #![tactic(auto)]
 
 ghost use Rattle.std.specs.Prelude.{◌≡◌};
-ghost use Rattle.records.specs.Records.{body_length, body as records_body, Finds};
+ghost use Rattle.records.specs.Records.{body_length, code_of, body as records_body, Decodes, Finds, FindsKind};
 
-// What stands at an offset of a file.
-#[derive(Drop)]
-pub enum Found {
-    Body(usize),
+// The kinds of record.
+#[derive(Clone, Copy, PartialEq, Eq, Debug)]
+pub enum Kind {
+    Size,
+    Fragment,
+    Event,
+    End,
+}
+
+// Why no whole record stands at an offset: the file ends where a kind or body byte is due, or the kind is unknown.
+#[derive(Clone, Copy, PartialEq, Eq, Debug)]
+pub enum Missing {
     Cut,
     Unknown,
 }
 
-fn body_length(kind: u8) -> usize
-    ensures { result ≡ body_length kind }
-{
-    match kind {
-        1 => 6,
-        2 => 8,
-        3 => 6,
-        _ => 0,
+impl TryFrom<u8> for Kind {
+    type Error = Missing;
+
+    ghost try_from_gives = { Decodes };
+
+    #[tactic(auto, unfolding(crate::specs::Records::known))]
+    fn try_from(code: u8) -> Result<Self, Missing> {
+        match code {
+            1 => Ok(Kind::Size),
+            2 => Ok(Kind::Fragment),
+            3 => Ok(Kind::Event),
+            4 => Ok(Kind::End),
+            _ => Err(Missing::Unknown),
+        }
     }
 }
 
-pub fn find(file: &[u8], at: usize) -> Found
+impl Kind {
+    #[tactic(auto, unfolding(crate::specs::Records::body_length))]
+    fn body_length(self) -> usize
+        ensures { result ≡ body_length (code_of self) }
+    {
+        match self {
+            Kind::Size | Kind::Event => 6,
+            Kind::Fragment => 8,
+            Kind::End => 0,
+        }
+    }
+}
+
+// The kind of the whole record at an offset.
+pub fn find_kind(file: &[u8], at: usize) -> Result<Kind, Missing>
+    ensures { FindsKind file.now at result }
+{
+    let Some(&code) = file.get(at) else {
+        return Err(Missing::Cut);
+    };
+    let kind = Kind::try_from(code)?;
+    if file.len() - (at + 1) < kind.body_length() {
+        return Err(Missing::Cut);
+    }
+    Ok(kind)
+}
+
+// The length of the body at an offset.
+pub fn find(file: &[u8], at: usize) -> Result<usize, Missing>
     ensures { Finds file.now at result }
 {
-    if file.len() <= at {
-        return Found::Cut;
-    }
-    let kind = file[at];
-    if kind == 0 {
-        return Found::Unknown;
-    }
-    if 4 < kind {
-        return Found::Unknown;
-    }
-    let length = body_length(kind);
-    if file.len() - (at + 1) < length {
-        return Found::Cut;
-    }
-    Found::Body(length)
+    Ok(find_kind(file, at)?.body_length())
 }
 
 // The body of the record at an offset, as that part of the file; an empty part where there is none.
@@ -48,12 +76,7 @@ pub fn body(file: &[u8], at: usize) -> &[u8]
     ensures { result.now ≡ records_body file.now at }
 {
     match find(file, at) {
-        Found::Body(length) => {
-            let start = at + 1;
-            let end = start + length;
-            &file[start..end]
-        }
-        Found::Cut => &file[..0],
-        Found::Unknown => &file[..0],
+        Ok(length) => &file[at + 1..at + 1 + length],
+        Err(_) => &[],
     }
 }

@@ -1,164 +1,93 @@
 // A record of the file `files`: its case file is read again, and every answer is held against what the record says.
-use crate::number;
-use crate::number::read;
-use calls::{ALL, CELLS, COSTS, MASK};
-use storm_case::{Case, Found, Hut};
+use crate::record::Record;
+use calls::CELLS;
+use storm_case::{Case, Rule};
 
-// Where the file begins, behind the numbers.
-const FILE: usize = 20;
+// Each match_ reads what the record says next, and gives none where that is another or cut off.
 
 // What the room holds before, and holds still where nothing is stored.
 const JUNK_COST: i32 = -1_431_655_766;
 
 const JUNK_BYTE: u8 = 85;
 
-// What a hut is compared as where it is absent.
-const ABSENT: u32 = 65_536;
-
-fn is_hut(file: &[u8], row: usize, stored: u32) -> bool {
-    match storm_case::hut_of(file, row) {
-        Hut::At(hut) => hut as u32 == stored,
-        Hut::Absent => stored == ABSENT,
-    }
-}
-
-// Where the huts of the first rows end that are stored from `start` on; behind every record where these are others.
-fn after_huts(record: &[u8], start: usize, rows: usize, file: &[u8]) -> usize {
-    let mut at = start;
-    let mut row = 0;
-    while row < rows {
-        if !is_hut(file, row, number::two(record, at) as u32) {
-            return number::BEHIND;
+// The huts of the first rows, which are stored. Rows that are not there have none: the one behind the last, and some further on.
+fn match_huts(record: &mut Record<'_>, rows: usize, file: &[u8]) -> Option<()> {
+    for row in 0..rows {
+        if storm_case::hut_of(file, row) != Some(record.u16()?) {
+            return None;
         }
-        at = number::onward(at, 2);
-        row += 1;
     }
-    at
+    [rows, rows.saturating_add(1), 64, usize::MAX]
+        .iter()
+        .all(|&row| storm_case::hut_of(file, row).is_none())
+        .then_some(())
 }
 
-// Rows that are not there: the one behind the last, and some further on.
-fn are_absent(file: &[u8], rows: usize) -> bool {
-    is_hut(file, rows, ABSENT)
-        & is_hut(file, number::onward(rows, 1), ABSENT)
-        & is_hut(file, 64, ABSENT)
-        & is_hut(file, 18_446_744_073_709_551_615, ABSENT)
-}
-
-fn is_case(record: &[u8], case: Case) -> bool {
-    (case.number == number::byte(record, 0) as u32)
-        & (case.n == number::byte(record, 1) as usize)
-        & (case.place == number::four(record, 4) as usize)
-        & (case.window == number::four(record, 8))
-}
-
-// Where the cells end that are stored from `start` on, costs before mask; behind every record where the room holds others.
-fn after_cells(
-    record: &[u8],
-    start: usize,
+// So many cells, which are stored, costs before mask; the room behind them is as it was. Of more cells than the room has, the rest is passed over.
+fn match_cells(
+    record: &mut Record<'_>,
     cells: usize,
     costs: &[i32; CELLS],
     mask: &[u8; CELLS],
-) -> usize {
-    let mut said = [JUNK_COST as i64; ALL];
-    read(record, start, 0, JUNK_BYTE as i64, &mut said, MASK, CELLS);
-    let mask_at = read(record, start, 4, 0, &mut said, COSTS, cells);
-    let end = read(record, mask_at, 1, 0, &mut said, MASK, cells);
-    if calls::are_costs(&said, COSTS, costs, CELLS) & calls::are_bytes(&said, MASK, mask, CELLS) {
-        return end;
+) -> Option<()> {
+    let within = cells.min(CELLS);
+    let (costs, more_costs) = costs.split_at(within);
+    let (mask, more_mask) = mask.split_at(within);
+    for &cost in costs {
+        if record.i32()? != cost {
+            return None;
+        }
     }
-    number::BEHIND
+    for _ in within..cells {
+        record.i32()?;
+    }
+    let stored = record.take(cells)?.get(..within)?;
+    let same = stored == mask
+        && more_costs.iter().all(|&cost| cost == JUNK_COST)
+        && more_mask.iter().all(|&byte| byte == JUNK_BYTE);
+    same.then_some(())
 }
 
-// Reads the file into a room of the lengths that are stored. Where its cells end that are stored from `start` on.
-fn after_case(record: &[u8], start: usize, file: &[u8]) -> usize {
-    let room = number::two(record, 12) as usize;
-    let mask_room = number::two(record, 14) as usize;
-    if CELLS < room {
-        return number::BEHIND;
-    }
-    if CELLS < mask_room {
-        return number::BEHIND;
-    }
+// What stands at an offset: 0 and the body, or the number of a refusal.
+fn match_offset(record: &mut Record<'_>, file: &[u8]) -> Option<()> {
+    let offset = record.u64()? as usize;
+    let number = match storm_case::find(file, offset) {
+        Ok(_) => 0,
+        Err(missing) => Rule::from(missing).number(),
+    };
+    let stored = u32::from(record.u8()?);
+    let length = record.u8()?;
+    let body = record.take(usize::from(length))?;
+    (stored == number && body == storm_case::body(file, offset)).then_some(())
+}
+
+// The case's number where every answer is as stored.
+pub(crate) fn replay(record: &[u8]) -> Option<u8> {
+    let mut record = Record::new(record);
+    let number = record.u8()?;
+    let n = record.u8()?;
+    let rows = record.u8()?;
+    let offsets = record.u8()?;
+    let place = record.u32()?;
+    let window = record.u32()?;
+    let room = usize::from(record.u16()?);
+    let mask_room = usize::from(record.u16()?);
+    let length = record.u16()?;
+    let cells = record.u16()?;
+    let file = record.take(usize::from(length))?;
+    match_huts(&mut record, usize::from(rows), file)?;
     let mut costs = [JUNK_COST; CELLS];
     let mut mask = [JUNK_BYTE; CELLS];
-    let case = storm_case::read_case(file, &mut costs[..room], &mut mask[..mask_room]);
-    if !is_case(record, case) {
-        return number::BEHIND;
+    let (costs_room, mask_room) = (costs.get_mut(..room)?, mask.get_mut(..mask_room)?);
+    let case = Case::from(storm_case::read_case(file, costs_room, mask_room));
+    let same = case.number == u32::from(number)
+        && case.n == usize::from(n)
+        && case.place == place as usize
+        && case.window == window;
+    same.then_some(())?;
+    match_cells(&mut record, usize::from(cells), &costs, &mask)?;
+    for _ in 0..offsets {
+        match_offset(&mut record, file)?;
     }
-    let cells = number::two(record, 18) as usize;
-    after_cells(record, start, cells, &costs, &mask)
-}
-
-// What stands at an offset.
-fn is_found(file: &[u8], offset: usize, stored: u8) -> bool {
-    match storm_case::find(file, offset) {
-        Found::Body(_) => stored == 0,
-        Found::Cut => stored == 21,
-        Found::Unknown => stored == 22,
-    }
-}
-
-// Where the body ends that is stored from `start` on.
-fn after_body(record: &[u8], start: usize, count: usize, body: &[u8]) -> usize {
-    if body.len() != count {
-        return number::BEHIND;
-    }
-    let mut at = start;
-    let mut i = 0;
-    while i < body.len() {
-        if number::byte(record, at) != body[i] {
-            return number::BEHIND;
-        }
-        at = number::onward(at, 1);
-        i += 1;
-    }
-    at
-}
-
-// Where the answer at one offset ends that is stored from `at` on.
-fn after_offset(record: &[u8], at: usize, file: &[u8]) -> usize {
-    let offset = number::eight(record, at) as usize;
-    if !is_found(file, offset, number::byte(record, number::onward(at, 8))) {
-        return number::BEHIND;
-    }
-    let length = number::byte(record, number::onward(at, 9)) as usize;
-    after_body(
-        record,
-        number::onward(at, 10),
-        length,
-        storm_case::body(file, offset),
-    )
-}
-
-fn after_offsets(record: &[u8], start: usize, count: usize, file: &[u8]) -> usize {
-    let mut at = start;
-    let mut left = count;
-    while left > 0 {
-        at = after_offset(record, at, file);
-        left -= 1;
-    }
-    at
-}
-
-// The file's answers, stored from `start` on.
-fn are_answers(record: &[u8], start: usize, file: &[u8]) -> bool {
-    let rows = number::byte(record, 2) as usize;
-    if !are_absent(file, rows) {
-        return false;
-    }
-    let cells_at = after_huts(record, start, rows, file);
-    let offsets_at = after_case(record, cells_at, file);
-    let end = after_offsets(record, offsets_at, number::byte(record, 3) as usize, file);
-    end == record.len()
-}
-
-pub(crate) fn is_same(record: &[u8]) -> bool {
-    let end = number::onward(FILE, number::two(record, 16) as usize);
-    if record.len() < end {
-        return false;
-    }
-    if end < FILE {
-        return false;
-    }
-    are_answers(record, end, &record[FILE..end])
+    record.is_empty().then_some(number)
 }

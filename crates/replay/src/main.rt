@@ -3,169 +3,112 @@
 #![tactic(auto)]
 
 mod answer;
+mod counts;
 mod file;
-mod number;
+mod record;
 
-use input::Input;
+use counts::Counts;
 use std::fs::File;
 use std::io::Read;
 
-// More records than there are.
+// More records than there are; a file need not end.
 const MANY: u64 = 1_000_000;
 
-// What the next record came to: its number where it is as stored; else that it is not; that it is not and none can follow; or that there is none.
-const DIFFERENT: usize = 124;
+// No record is longer.
+const LONGEST: usize = 65_535;
 
-const CUT: usize = 125;
-
-const END: usize = 126;
-
-// How many records are as stored, by their number; how many are, how many are not, and how many there are.
-type Counts = [u64; 128];
-
-const EQUAL: usize = 123;
-
-const RECORDS: usize = 127;
-
-fn is_same(answers: bool, record: &[u8]) -> bool {
-    if answers {
-        return answer::is_same(record);
-    }
-    file::is_same(record)
+// What the next record came to: it is as stored, with its number; it is not; it is not, and none can follow; or there is none.
+#[derive(Clone, Copy, PartialEq, Eq)]
+enum Outcome {
+    Equal(u8),
+    Different,
+    Cut,
+    End,
 }
 
 // How many bytes are read until the file ends or the buffer is full; none where a read fails.
 fn read_full(file: &mut impl Read, room: &mut [u8]) -> usize {
-    match input::read(file, room) {
-        Input::Read(count) => count,
-        Input::Failed(_) => 0,
-    }
+    input::read(file, room).unwrap_or(0)
 }
 
-// Reads a record of the buffer's length and replays it.
-fn replay(file: &mut impl Read, answers: bool, record: &mut [u8]) -> usize {
-    if read_full(file, record) < record.len() {
-        return CUT;
+// Reads the next record and replays it.
+fn replay_next<F: Fn(&[u8]) -> Option<u8>>(file: &mut impl Read, replay: &F) -> Outcome
+    requires { F.IsAlwaysCallable replay.now }
+{
+    let mut length = [0u8; 4];
+    if read_full(file, &mut length) < length.len() {
+        return Outcome::Cut;
     }
-    if is_same(answers, record) {
-        return number::byte(record, answers as usize) as usize;
-    }
-    DIFFERENT
-}
-
-// Nothing may follow the last record.
-fn replay_end(file: &mut impl Read) -> usize {
-    let mut rest = [0u8; 1];
-    if read_full(file, &mut rest) == 0 {
-        return END;
-    }
-    CUT
-}
-
-// The length of the next record, 0 behind the last; longer than any record where it is cut off.
-fn next_length(file: &mut impl Read) -> usize {
-    let mut size = [0u8; 4];
-    if read_full(file, &mut size) < 4 {
-        return number::BEHIND;
-    }
-    number::four(&size, 0) as usize
-}
-
-fn replay_next(file: &mut impl Read, answers: bool) -> usize {
-    let length = next_length(file);
+    let length = u32::from_le_bytes(length) as usize;
     if length == 0 {
-        return replay_end(file);
+        // Nothing may follow the last record.
+        return match read_full(file, &mut [0u8; 1]) {
+            0 => Outcome::End,
+            _ => Outcome::Cut,
+        };
     }
-    if number::BEHIND <= length {
-        return CUT;
+    let mut room = [0u8; LONGEST];
+    let Some(record) = room.get_mut(..length) else {
+        return Outcome::Cut;
+    };
+    if read_full(file, record) < record.len() {
+        return Outcome::Cut;
     }
-    let mut record = [0u8; number::BEHIND];
-    replay(file, answers, &mut record[..length])
-}
-
-fn count(counts: &mut Counts, at: usize) {
-    if 127 < at {
-        return;
-    }
-    if counts[at] < MANY {
-        counts[at] += 1;
-    }
-}
-
-// Says which record is not as stored; the first is record 0.
-fn print_different(out: &impl Print, record: u64) {
-    let _ = println!(out; "different: record {record}");
-}
-
-fn note(out: &impl Print, outcome: usize, counts: &mut Counts) {
-    if outcome == END {
-        return;
-    }
-    if outcome < EQUAL {
-        count(counts, outcome);
-        count(counts, EQUAL);
-    } else {
-        print_different(out, counts[RECORDS]);
-        count(counts, DIFFERENT);
-    }
-    count(counts, RECORDS);
-}
-
-// All records behind the header.
-fn replay_all(out: &impl Print, file: &mut impl Read, answers: bool, counts: &mut Counts) {
-    let mut header = [0u8; 128];
-    read_full(file, &mut header);
-    let mut turns = MANY;
-    let mut outcome = 0;
-    while turns > 0 && outcome < CUT {
-        outcome = replay_next(file, answers);
-        note(out, outcome, counts);
-        turns -= 1;
+    match replay(record) {
+        Some(number) => Outcome::Equal(number),
+        None => Outcome::Different,
     }
 }
 
-// A byte from 128 on stands for a count.
-fn print_one(out: &impl Print, byte: u8, counts: &Counts) {
-    if byte < 128 {
-        let _ = out.write_all(&[byte]);
-        return;
-    }
-    let at = (byte - 128) as usize;
-    let _ = out.print(counts[at]);
-}
-
-fn print(out: &impl Print, form: &[u8], counts: &Counts) {
-    let mut i = 0;
-    while i < form.len() {
-        print_one(out, form[i], counts);
-        i += 1;
-    }
-}
-
-fn replay_stored(rt: HostRuntime, path: &str, answers: bool, form: &[u8]) {
-    let mut file = match File::open(&rt, path) {
+// Replays all records behind the header of a file; says which are not as stored, the first being record 0. None where the file is not opened.
+fn replay_stored<F: Fn(&[u8]) -> Option<u8>>(
+    rt: &HostRuntime,
+    path: &str,
+    replay: F,
+) -> Option<Counts>
+    requires { F.IsAlwaysCallable replay }
+{
+    let mut file = match File::open(rt, path) {
         Ok(file) => file,
         Err(error) => {
             let _ = input::fail(&mut rt.stderr(), path.as_bytes(), error);
-            return;
+            return None;
         }
     };
-    let mut counts = [0u64; 128];
-    replay_all(&rt, &mut file, answers, &mut counts);
-    print(&rt, form, &counts);
+    read_full(&mut file, &mut [0u8; 128]);
+    let mut counts = Counts::new();
+    for _ in 0..MANY {
+        let outcome = replay_next(&mut file, &replay);
+        match outcome {
+            Outcome::Equal(number) => counts.count_equal(number),
+            Outcome::End => break,
+            Outcome::Different | Outcome::Cut => {
+                let record = counts.records();
+                let _ = println!(rt; "different: record {record}");
+                counts.count_different();
+            }
+        }
+        if outcome == Outcome::Cut {
+            break;
+        }
+    }
+    Some(counts)
 }
 
 fn main(rt: HostRuntime) {
-    replay_stored(
-        rt,
-        "answers",
-        true,
-        b"paired \x80\nno pairing \x86\nunfinished \x87\nreplayed \xff answers of the crate: \xfb equal, \xfc different\n",
-    );
-    replay_stored(
-        rt,
-        "files",
-        false,
-        b"accepted \x80\nnumber 20: \x94\nnumber 21: \x95\nnumber 22: \x96\nnumber 23: \x97\nnumber 24: \x98\nnumber 25: \x99\nnumber 26: \x9a\nreplayed \xff files: \xfb equal, \xfc different\n",
-    );
+    if let Some(counts) = replay_stored(&rt, "answers", answer::replay) {
+        let _ = println!(rt; "paired {}", counts.of(0));
+        let _ = println!(rt; "no pairing {}", counts.of(6));
+        let _ = println!(rt; "unfinished {}", counts.of(7));
+        let replayed = counts.records();
+        let _ = println!(rt; "replayed {replayed} answers of the crate: {counts}");
+    }
+    if let Some(counts) = replay_stored(&rt, "files", file::replay) {
+        let _ = println!(rt; "accepted {}", counts.of(0));
+        for number in 20..27 {
+            let _ = println!(rt; "number {number}: {}", counts.of(number));
+        }
+        let replayed = counts.records();
+        let _ = println!(rt; "replayed {replayed} files: {counts}");
+    }
 }

@@ -1,19 +1,58 @@
 -- The judgement, rule by rule: a rule that applies gives its refusal, and past one that does not the rest of the list decides.
-use mathlib.Core.Path.{◌≡◌, sym, ◌∙◌}
+use mathlib.Core.Path.{◌≡◌, refl, sym, ◌∙◌}
 use mathlib.Core.Logic.{◌≢◌}
-use mathlib.Core.Bool.{Bool, true, false, not, ◌&&◌}
+use mathlib.Core.Bool.{Bool, true, false, not, ◌&&◌, ◌||◌}
 use mathlib.Core.List.{List, [], ◌∷◌}
-use Prim.Native.Nat.{ℕ, ◌*◌, ◌≤◌, ◌<◌}
+use Prim.Native.Nat.{ℕ, ◌+◌, ◌*◌, ◌≤◌, ◌<◌}
 use native.Mathlib.Omega.{arith}
 use borrow.Author.Tests.{le-ltb, lt-ltb, eq-eqb, ne_eqb, eqb-true, eqb-false, ltb-true, ltb-false}
 use lib.Dec.{T, eqb, eqb→eq, ltb}
 use lib.IntN.{ℤ}
 use lib.ListN.{length}
-use Rattle.lines.specs.First.{first, any}
+use Rattle.std.specs.Prelude.{Some, None, Result, IsErrAnd}
+use Rattle.std.proofs.lemmas.Result.{err_from_is_err_and}
+use Rattle.lines.specs.First.{first, any, found}
 use Rattle.lines.proofs.Tests.{by_cases, and_left, and_right}
+use Rattle.std.proofs.Math.Bool.{or_comm}
+use Rattle.lines.proofs.Loops.{any_more}
+use Rattle.lines.proofs.Firsts.{found_none, some_found, none_found}
 use Rattle.steps.specs.Rules.{Rule, rule, cell_rule, by_rules}
 use Rattle.steps.specs.Refusal.{Verdict, refused, dead, accepted, bad_mask, bad_cost, dead_row, rules, by_rows, judgement}
 use Rattle.steps.proofs.RuleLaws.{applies, passes}
+use Rattle.rules.specs.declared.refusal.Refusal.{Refusal}
+use Rattle.rules.specs.declared.refusal.Stop.{Stop}
+use Rattle.rules.specs.declared.refusal.Stop.TheVariants.{Refused}
+use Rattle.rules.specs.View.{view_refusal, view_verdict, alone}
+
+-- ---- one rule
+
+accepted_apart : {number place : ℕ} → accepted ≡ refused number place → ⊥
+accepted_apart e = cc
+
+module _ (r : Rule) where
+  pub says : r.applies ≡ true → refused r.number r.place ≡ alone r
+  says e = sym (applies refused r [] accepted e)
+
+  pub silent : r.applies ≡ false → accepted ≡ alone r
+  unfolding by_rules
+  silent e = sym (passes refused r [] accepted e)
+
+  -- the code lets it pass, or refuses by it
+  pub passed : accepted ≡ alone r → r.applies ≡ false
+  passed e = by_cases r.applies (λ y. absurd (accepted_apart (e ∙ sym (says y)))) (λ y. y)
+
+  pub refuses : {number place : ℕ} → refused number place ≡ alone r → (rs : List Rule) (otherwise : Verdict) → by_rules refused (r ∷ rs) otherwise ≡ refused number place
+  refuses e rs otherwise = by_cases r.applies (λ y. applies refused r rs otherwise y ∙ says y ∙ sym e) (λ y. absurd (accepted_apart (silent y ∙ sym e)))
+
+-- a rule that looks through cells, by the lowest bad one
+module _ (number : ℕ) (bad : ℕ → Bool) (n : ℕ) where
+  pub cell_found : {k : ℕ} → Some k ≡ found n (first bad n) → refused number k ≡ alone (cell_rule number bad n)
+  unfolding any
+  cell_found e = let f = some_found n (first bad n) _ (sym e) in rw (← f.0) (says (cell_rule number bad n) (lt-ltb _ n (rw (← f.0) at f.1)))
+
+  pub cells_clear : None ≡ found n (first bad n) → accepted ≡ alone (cell_rule number bad n)
+  unfolding any
+  cells_clear e = silent (cell_rule number bad n) (le-ltb _ n (none_found n (first bad n) (sym e)))
 
 -- cells asked one after another, whether one is bad
 module _ (bad : ℕ → Bool) where
@@ -21,15 +60,18 @@ module _ (bad : ℕ → Bool) where
   unfolding any
   none_asked = sym (le-ltb (first bad 0) 0 (omega arith))
 
-  pub all_asked : {k cells : ℕ} → k ≤ cells → cells ≤ k → any bad k ≡ any bad cells
-  all_asked {k} {cells} l h = let e : k ≡ cells = omega arith in rw e
+  pub asked_more : (i : ℕ) {before here : Bool} → before ≡ any bad i → here ≡ bad i → (before || here) ≡ any bad (i + 1)
+  asked_more i e h = rw (e, h) (or_comm (any bad i) (bad i) ∙ sym (any_more bad i))
 
-  -- what was asked, and found, of all cells
-  pub asked : {r : Bool} {cells n : ℕ} → r ≡ any bad cells → cells ≡ n → any bad n ≡ r
-  asked e size = rw (← size) (sym e)
+  pub none_there : (n : ℕ) → any bad n ≡ false → None ≡ found n (first bad n)
+  unfolding any
+  none_there n e = sym (found_none n (first bad n) (ltb-false (first bad n) n e))
 
-  pub place : {k cells n : ℕ} → k ≡ first bad cells → cells ≡ n → first bad n ≡ k
-  place e size = rw (← size) (sym e)
+-- the code's refusal, as `?` hands it on
+pub refused_by : (v : Result Unit Stop) (r : Refusal) → IsErrAnd v (λ s. s ≡ Refused r) → {w : Verdict} → w ≡ view_refusal r → view_verdict v ≡ w
+refused_by v r h e = let p = err_from_is_err_and v h in rw (p.1, p.2) (sym e)
+
+-- ---- the list of rules
 
 module _ (limit n : ℕ) (costs : List ℤ) (mask : List ℕ) (others : Bool) where
   abbrev pub right_lengths : Bool
@@ -48,6 +90,9 @@ module _ (limit n : ℕ) (costs : List ℤ) (mask : List ℕ) (others : Bool) wh
         mask_length = eqb→eq (length mask) (n * n) (and_right (eqb (length costs) (n * n)) _ both);
       }
 
+  pub lengths_passed : accepted ≡ alone (rule 3 (not right_lengths)) → RightLengths
+  lengths_passed e = lengths_are (by_cases right_lengths (λ y. y) (λ y. absurd (accepted_apart (e ∙ sym (says (rule 3 (not right_lengths)) (rw y))))))
+
   -- the verdict from a rule on
   abbrev by : List Rule → Verdict
   by rs = by_rules refused rs (by_rows n mask)
@@ -63,6 +108,9 @@ module _ (limit n : ℕ) (costs : List ℤ) (mask : List ℕ) (others : Bool) wh
 
   abbrev rules_2 : List Rule
   rules_2 = rule 2 (ltb limit n) ∷ rules_3
+
+  abbrev rules_1 : List Rule
+  rules_1 = rule 1 (eqb n 0) ∷ rules_2
 
   abbrev Judges : Verdict → Type 0
   Judges v = judgement limit n costs mask others ≡ v
@@ -81,7 +129,7 @@ module _ (limit n : ℕ) (costs : List ℤ) (mask : List ℕ) (others : Bool) wh
   From_5 = Judges (by rules_5)
 
   abbrev pub From_rows : Type 0
-  From_rows = Judges (by_rows n mask)
+  From_rows = Judges (by [])
 
   pub rule_1 : n ≡ 0 → Judges (refused 1 0)
   unfolding judgement rules
@@ -100,29 +148,55 @@ module _ (limit n : ℕ) (costs : List ℤ) (mask : List ℕ) (others : Bool) wh
   pub rule_3 : From_3 → right_lengths ≡ false → Judges (refused 3 0)
   rule_3 e w = e ∙ applies refused _ rules_4 _ (rw w)
 
-  pub past_3 : From_3 → right_lengths ≡ true → From_4
-  past_3 e w = e ∙ passes refused _ rules_4 _ (rw w)
+  -- from the first rule on
+  pub from_1 : Judges (by rules_1)
+  unfolding judgement rules
+  from_1 = refl
 
-  pub rule_4 : From_4 → any (bad_mask mask) (n * n) ≡ true → {k : ℕ} → first (bad_mask mask) (n * n) ≡ k → Judges (refused 4 k)
-  rule_4 e a f = e ∙ applies refused _ rules_5 _ a ∙ rw f
+  -- a rule by itself, on the way: the code refuses by it, or the rest decides
+  pub stops : (r : Rule) (rs : List Rule) {number place : ℕ} → Judges (by (r ∷ rs)) → refused number place ≡ alone r → Judges (refused number place)
+  stops r rs e f = e ∙ refuses r f rs (by_rows n mask)
 
-  pub past_4 : From_4 → any (bad_mask mask) (n * n) ≡ false → From_5
-  past_4 e a = e ∙ passes refused _ rules_5 _ a
+  pub goes_on : (r : Rule) (rs : List Rule) → Judges (by (r ∷ rs)) → accepted ≡ alone r → Judges (by rs)
+  goes_on r rs e f = e ∙ passes refused r rs (by_rows n mask) (passed r f)
 
-  pub rule_5 : From_5 → any (bad_cost costs mask) (n * n) ≡ true → {k : ℕ} → first (bad_cost costs mask) (n * n) ≡ k → Judges (refused 5 k)
-  rule_5 e a f = e ∙ applies refused _ [] _ a ∙ rw f
+  -- past the first rules, as many as the code has let pass
+  module _ (rows : accepted ≡ alone (rule 1 (eqb n 0))) (small : accepted ≡ alone (rule 2 (ltb limit n))) where
+    pub past_limit : From_3
+    past_limit = goes_on (rule 2 (ltb limit n)) rules_3 (goes_on (rule 1 (eqb n 0)) rules_2 from_1 rows) small
 
-  pub past_5 : From_5 → any (bad_cost costs mask) (n * n) ≡ false → From_rows
+    module _ (sized : accepted ≡ alone (rule 3 (not right_lengths))) where
+      pub past_lengths : From_4
+      past_lengths = goes_on (rule 3 (not right_lengths)) rules_4 past_limit sized
+
+      pub at_cells : (number : ℕ) (bad : ℕ → Bool) {v : Verdict} → v ≡ alone (cell_rule number bad (length mask)) → v ≡ alone (cell_rule number bad (n * n))
+      at_cells number bad e = rw (lengths_passed sized).mask_length at e
+
+      module _ (flags : accepted ≡ alone (cell_rule 4 (bad_mask mask) (length mask))) where
+        pub past_mask : From_5
+        past_mask = goes_on (cell_rule 4 (bad_mask mask) (n * n)) rules_5 past_lengths (at_cells 4 (bad_mask mask) flags)
+
+        pub past_costs : accepted ≡ alone (cell_rule 5 (bad_cost costs mask) (length mask)) → From_rows
+        past_costs range = goes_on (cell_rule 5 (bad_cost costs mask) (n * n)) [] past_mask (at_cells 5 (bad_cost costs mask) range)
+
+  -- past the last rule the rows decide
+  rows_decide : From_rows → Judges (by_rows n mask)
   unfolding by_rules
-  past_5 e a = e ∙ passes refused _ [] _ a
+  rows_decide e = e
 
-  pub row_dead : From_rows → {i : ℕ} → i ≡ first (dead_row n mask) n → i < n → Judges (dead i)
+  dead_by_rows : {i : ℕ} → Some i ≡ found n (first (dead_row n mask) n) → by_rows n mask ≡ dead i
   unfolding by_rows any
-  row_dead e f h = e ∙ rw (← f, lt-ltb _ n h)
+  dead_by_rows e = let d = some_found n (first (dead_row n mask) n) _ (sym e) in rw (d.0, lt-ltb _ n d.1)
 
-  pub rows_alive : From_rows → {i : ℕ} → i ≡ first (dead_row n mask) n → n ≤ i → Judges accepted
+  accepted_by_rows : None ≡ found n (first (dead_row n mask) n) → by_rows n mask ≡ accepted
   unfolding by_rows any
-  rows_alive e f h = e ∙ rw (← f, le-ltb _ n h)
+  accepted_by_rows e = rw (le-ltb _ n (none_found n (first (dead_row n mask) n) (sym e)))
+
+  pub row_dead : From_rows → {i : ℕ} → Some i ≡ found n (first (dead_row n mask) n) → Judges (dead i)
+  row_dead e f = rows_decide e ∙ dead_by_rows f
+
+  pub rows_alive : From_rows → None ≡ found n (first (dead_row n mask) n) → Judges accepted
+  rows_alive e f = rows_decide e ∙ accepted_by_rows f
 
 -- above the limit the other buffers' lengths do not matter
 pub others_matter : (limit n : ℕ) (costs : List ℤ) (mask : List ℕ) (others others' : Bool) → (n ≤ limit → others ≡ others')

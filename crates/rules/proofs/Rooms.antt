@@ -1,7 +1,8 @@
 -- The room of the written buffers as facts, one for each length.
-use mathlib.Core.Path.{◌≡◌}
+use mathlib.Core.Path.{◌≡◌, sym, ◌∙◌}
 use mathlib.Core.Bool.{◌&&◌}
 use Prim.Native.Nat.{ℕ}
+use Rattle.std.proofs.Math.Bool.{and_assoc}
 use borrow.Author.Tests.{eq-eqb}
 use lib.Dec.{T, eqb, eqb→eq}
 use lib.ListN.{length}
@@ -20,6 +21,18 @@ abbrev pub Room : ℕ → ℕ → Buffers → Type 0
 Room cells lines b = HasRoom cells lines (length b.working) (length b.marks) (length b.columns) (length b.row_prices) (length b.column_prices)
 
 module _ (cells lines working marks columns row_prices column_prices : ℕ) where
+  -- the lengths tested from the first on, or from the last
+  pub tested : (eqb working cells && (eqb marks cells && (eqb columns lines && (eqb row_prices lines && eqb column_prices lines))))
+      ≡ has_room cells lines working marks columns row_prices column_prices
+  unfolding has_room
+  tested =
+      let a = eqb working cells in
+      let b = eqb marks cells in
+      let c = eqb columns lines in
+      let d = eqb row_prices lines in
+      let e = eqb column_prices lines in
+      sym (and_assoc (a && b && c) d e ∙ and_assoc (a && b) c (d && e) ∙ and_assoc a b (c && (d && e)))
+
   pub room_is : T (has_room cells lines working marks columns row_prices column_prices) → HasRoom cells lines working marks columns row_prices column_prices
   unfolding has_room
   room_is h =

@@ -12,7 +12,7 @@ use storm_case::Case;
 pub extern "C" fn serbihun_read_case(file: &[u8], costs: &mut [i32], mask: &mut [u8]) -> Case
     ensures { (result, costs.new, mask.new) ≡ read file.now costs.old mask.old }
 {
-    storm_case::read_case(file, costs, mask)
+    Case::from(storm_case::read_case(file, costs, mask))
 }
 
 // The hut of a row, or 65,536.

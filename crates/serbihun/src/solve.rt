@@ -4,11 +4,13 @@ ghost use Rattle.steps.specs.Lent.{task, buffers};
 ghost use Rattle.cost_bytes.specs.Bytes.{decoded};
 
 use cost_bytes::{cells_to_read, decode};
+use munkres::BySteps;
+use quick::ByKeys;
+use solvers::{Steps, solve_assignment};
 use steps::Answer;
 
-// `solvers::solve_by` with each cost as four little-endian bytes. Bytes of another number than 4 n n are a wrong length, answer 3.
-fn solve_bytes(
-    by_steps: bool,
+// `solve_assignment` with each cost as four little-endian bytes. Bytes of another number than 4 n n are a wrong length, answer 3. The buffers come one by one, as C lends them.
+fn solve_bytes<S: Steps>(
     n: usize,
     costs: &[u8],
     mask: &[u8],
@@ -26,8 +28,7 @@ fn solve_bytes(
     let cells = cells_to_read(n, costs.len());
     let mut numbers = [0i32; 4096];
     decode(cells, costs, &mut numbers);
-    solvers::solve_by(
-        by_steps,
+    solve_assignment::<S>(
         n,
         &numbers[..cells],
         mask,
@@ -57,8 +58,7 @@ pub extern "C" fn serbihun_solve(
         (buffers working.old marks.old columns.old row_prices.old column_prices.old) result
         (buffers working.new marks.new columns.new row_prices.new column_prices.new) }
 {
-    solve_bytes(
-        false,
+    solve_bytes::<ByKeys>(
         n,
         costs,
         mask,
@@ -88,8 +88,7 @@ pub extern "C" fn serbihun_solve_by_steps(
         (buffers working.old marks.old columns.old row_prices.old column_prices.old) result
         (buffers working.new marks.new columns.new row_prices.new column_prices.new) }
 {
-    solve_bytes(
-        true,
+    solve_bytes::<BySteps>(
         n,
         costs,
         mask,

@@ -1,28 +1,13 @@
 // How many lines a set has.
-ghost use Rattle.std.specs.Prelude.{◌≡◌, ◌-◌, ◌≤◌};
-ghost use Rattle.lines.specs.Count.{count as count_count};
+ghost use Rattle.std.specs.Prelude.{◌≡◌, ◌≤◌, length};
+ghost use Rattle.std.specs.List.{filter, range_with_len};
 ghost use Rattle.lines.specs.Sets.{has};
 
 // How many of the first n lines the set has.
 pub(crate) fn count(n: usize, set: u64) -> usize
     requires { n ≤ 64 }
-    ensures { result ≡ count_count (has set) n }
+    ensures value { result ≡ length (filter (has set) (range_with_len 0 n)) }
+    ensures within { result ≤ n }
 {
-    let mut counted = 0;
-    let mut line = 0;
-    while line < n {
-        if lines::has(set, line) {
-            counted += 1;
-        }
-        line += 1;
-    }
-    counted
-}
-
-// How many of them it has not.
-pub(crate) fn count_others(n: usize, set: u64) -> usize
-    requires { n ≤ 64 }
-    ensures { result ≡ n - count_count (has set) n }
-{
-    n - count(n, set)
+    (0..n).filter(|line| lines::has(set, *line)).count()
 }

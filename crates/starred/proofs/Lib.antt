@@ -3,3 +3,4 @@ pub mod Free
 pub mod Markings
 pub mod Starrings
 pub mod Differences
+pub mod Counted

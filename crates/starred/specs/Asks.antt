@@ -5,23 +5,19 @@ use Rattle.lines.specs.Bounds.{Within}
 use Rattle.steps.specs.Lent.{allows, cost_at}
 use Rattle.steps.specs.Steps.{is_zero, row_price}
 use Rattle.ground.specs.Square.{Square}
-use Rattle.starred.specs.Flipping.{Follows}
 
 -- no zero of a row with this price stands before a column
 abbrev pub NoneBefore : ℕ → List ℤ → List ℕ → ℕ → ℤ → ℕ → Type 0
 NoneBefore n costs mask row price column = (j : ℕ) → j < column → (allows n mask row j && is_zero (cost_at n costs row j -ℤ price)) ≡ false
 
 -- step 2 on costs: the prices of the rows are those of step 1
-pub record Stars (n : ℕ) (costs : List ℤ) (mask : List ℕ) (row_prices : List ℤ) (cheapest star owner : List ℕ) : Type 0 where
+pub record StarsRows (n : ℕ) (costs : List ℤ) (mask : List ℕ) (row_prices : List ℤ) (cheapest : List ℕ) : Type 0 where
   pub most : n ≤ 64
   pub costs_square : Square n costs
   pub mask_square : Square n mask
   pub prices : row_prices ≡ table (row_price n (allows n mask) (cost_at n costs)) n
   pub small : (i : ℕ) → i < n → Within 2147483648 (row_price n (allows n mask) (cost_at n costs) i)
-  pub cheapest_long : n ≤ length cheapest
   pub before : (i : ℕ) → i < n → NoneBefore n costs mask i (row_price n (allows n mask) (cost_at n costs) i) (get_or cheapest i 0)
-  pub star_long : n ≤ length star
-  pub owner_long : n ≤ length owner
 
 -- one row of it
 pub record StarsRow (n : ℕ) (costs : List ℤ) (mask : List ℕ) (row : ℕ) (price : ℤ) (from : ℕ) : Type 0 where
@@ -38,22 +34,11 @@ pub record CostsPrice (place : ℕ) (price : ℤ) (costs : List ℤ) (mask : Lis
   pub mask_long : place < length mask
   pub small : Within 2147483648 price
 
-pub record FlipsPath (n row column : ℕ) (star owner prime : List ℕ) : Type 0 where
-  pub follows : Follows n prime n owner row column
-  pub star_long : n ≤ length star
-  pub owner_long : n ≤ length owner
-  pub prime_long : n ≤ length prime
-
-pub record WritesMarks (n : ℕ) (star prime marks : List ℕ) : Type 0 where
-  pub marks_square : Square n marks
-  pub star_long : n ≤ length star
-  pub prime_long : n ≤ length prime
-
 -- a column of each row, whose cost is its price
 pub record PricesRows (n : ℕ) (costs : List ℤ) (cheapest : List ℕ) (row_prices : List ℤ) : Type 0 where
+  pub most : n ≤ 64
   pub costs_square : Square n costs
   pub row_lines : length row_prices ≡ n
-  pub cheapest_long : n ≤ length cheapest
   pub below : (i : ℕ) → i < n → get_or cheapest i 0 < n
 
 pub record WritesRow (n : ℕ) (costs : List ℤ) (mask : List ℕ) (row : ℕ) (price : ℤ) (column_prices working : List ℤ) : Type 0 where

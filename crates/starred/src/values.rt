@@ -7,6 +7,8 @@ ghost use Rattle.steps.specs.Lent.{allows, cost_at};
 ghost use Rattle.starred.specs.Written.{working_of};
 ghost use Rattle.starred.specs.Asks.{PricesRows, WritesRow, WritesWorking};
 
+use ground::matrix::Matrix;
+
 pub fn difference(x: i64, y: i64) -> i64
     requires { SFits w64 (x -ℤ y) }
     ensures { result ≡ x -ℤ y }
@@ -15,62 +17,37 @@ pub fn difference(x: i64, y: i64) -> i64
 }
 
 // Step 1: the price of each row is its cost where it is cheapest.
-pub fn set_row_prices(n: usize, costs: &[i32], cheapest: &[usize], row_prices: &mut [i64])
-    requires { PricesRows n costs.now cheapest.now row_prices.old }
-    ensures { row_prices.new ≡ table (λ i. cost_at n costs.now i (get_or cheapest.now i 0)) n }
+pub fn set_row_prices(matrix: Matrix, cheapest: &[usize; 64], row_prices: &mut [i64])
+    requires { PricesRows matrix.n matrix.costs.now cheapest.now row_prices.old }
+    ensures { let m = matrix.entry in row_prices.new ≡ table (λ i. cost_at m.n m.costs.now i (get_or cheapest.now i 0)) m.n }
 {
-    let mut row = 0;
-    while row < n {
-        let place = row * n + cheapest[row];
-        row_prices[row] = costs[place] as i64;
-        row += 1;
+    for (row, price) in row_prices.iter_mut().enumerate() {
+        *price = i64::from(matrix.costs[row * matrix.n + cheapest[row]]);
     }
 }
 
-// What each cost of the row is above its prices; 0 at a forbidden cell.
-fn write_row(
-    n: usize,
-    costs: &[i32],
-    mask: &[u8],
-    row: usize,
-    price: i64,
-    column_prices: &[i64],
-    working: &mut [i64],
-)
-    requires { WritesRow n costs.now mask.now row price column_prices.now working.old }
-    ensures { working.new ≡ each_row n row (λ j w. cond (allows n mask.now row j) (cost_at n costs.now row j -ℤ price -ℤ get_or column_prices.now j (pos 0)) (pos 0)) working.old }
+// What each cost of the row is above its prices; 0 at a forbidden cell. The value is computed for every cell and kept where it is allowed, so that nothing branches on the mask.
+fn write_row(matrix: Matrix, row: usize, price: i64, column_prices: &[i64], working: &mut [i64])
+    requires { WritesRow matrix.n matrix.costs.now matrix.mask.now row price column_prices.now working.old }
+    ensures { let m = matrix.entry in working.new
+        ≡ each_row m.n row (λ j w. cond (allows m.n m.mask.now row j) (cost_at m.n m.costs.now row j -ℤ price -ℤ get_or column_prices.now j (pos 0)) (pos 0)) working.old }
 {
+    let Matrix { n, costs, mask } = matrix;
     let start = row * n;
-    let mut column = 0;
-    while column < n {
+    for column in 0..n {
         let place = start + column;
-        if mask[place] == 1 {
-            working[place] = difference(
-                difference(costs[place] as i64, price),
-                column_prices[column],
-            );
-        } else {
-            working[place] = 0;
-        }
-        column += 1;
+        let above_row = difference(i64::from(costs[place]), price);
+        let above = difference(above_row, column_prices[column]);
+        working[place] = if mask[place] == 1 { above } else { 0 };
     }
 }
 
 // The working values that the prices leave.
-pub fn write_working(
-    n: usize,
-    costs: &[i32],
-    mask: &[u8],
-    row_prices: &[i64],
-    column_prices: &[i64],
-    working: &mut [i64],
-)
-    requires { WritesWorking n costs.now mask.now row_prices.now column_prices.now working.old }
-    ensures { working.new ≡ working_of n costs.now mask.now row_prices.now column_prices.now }
+pub fn write_working(matrix: Matrix, row_prices: &[i64], column_prices: &[i64], working: &mut [i64])
+    requires { WritesWorking matrix.n matrix.costs.now matrix.mask.now row_prices.now column_prices.now working.old }
+    ensures { let m = matrix.entry in working.new ≡ working_of m.n m.costs.now m.mask.now row_prices.now column_prices.now }
 {
-    let mut row = 0;
-    while row < n {
-        write_row(n, costs, mask, row, row_prices[row], column_prices, working);
-        row += 1;
+    for row in 0..matrix.n {
+        write_row(matrix, row, row_prices[row], column_prices, working);
     }
 }

@@ -9,8 +9,9 @@ use lib.IntN.{ℤ}
 use lib.ListN.{length, take, length-append, length-take}
 use lib.Seq.{take_all, get_or-take}
 use Rattle.lines.proofs.Tests.{T_same, eqb_yes}
-use Rattle.records.specs.declared.Found.{Found}
-use Rattle.records.specs.declared.Found.TheVariants.{Body, Cut, Unknown}
+use Rattle.std.specs.Prelude.{Result, Ok, Err}
+use Rattle.records.specs.declared.Missing.{Missing}
+use Rattle.records.specs.declared.Missing.TheVariants.{Cut, Unknown}
 use Rattle.records.specs.Records.{found}
 use Rattle.records.proofs.Cuts.{cut_found}
 use Rattle.judgement.specs.Numbers.{u16_at, u32_at}
@@ -53,10 +54,10 @@ module _ (k : ℕ) (file : List ℕ) (s : D.Scan) (h : s.at + 9 ≤ k) where
   unfolding D.judge_record D.record_of
   cut_record = rw (cut_found k file s.at h) (go (found file s.at))
     where
-      go : (f : Found) → D.record_of (take k file) s f ≡ D.record_of file s f
-      go (Body n) = cut_kind
-      go Cut = refl
-      go Unknown = refl
+      go : (f : Result ℕ Missing) → D.record_of (take k file) s f ≡ D.record_of file s f
+      go (Ok n) = cut_kind
+      go (Err Cut) = refl
+      go (Err Unknown) = refl
 
 -- ---- how far the scan comes
 

@@ -15,7 +15,7 @@ use Rattle.lines.proofs.Bounds.{cells_fit}
 use Rattle.lines.proofs.Squares.{place_lt, length_square, square_at}
 use Rattle.lines.proofs.Tests.{T_false, and_left, and_right}
 use Rattle.storm_case.specs.declared.Case.{Case}
-use Rattle.storm_case.specs.declared.Hut.TheVariants.{At, Absent}
+use Rattle.std.specs.Prelude.{Some, None}
 use Rattle.judgement.specs.Numbers.{AreBytes}
 use Rattle.judgement.specs.Scan as D
 use Rattle.storm_case.specs.Case.{clock_error, may_pair, pair_cost, mask_byte, filled, case, case_of, has_cells, read, hut_in, hut}
@@ -133,7 +133,7 @@ module _ {n window : ℕ} {lines : List Line} (h : WellFormed n window lines) wh
           other_mask = filled_rest n (mask_byte file scan) mask fm;
         })
 
-  pub case_hut : (i : ℕ) → (i < n → hut file i ≡ At (row_at lines i).hut) × (n ≤ i → hut file i ≡ Absent)
+  pub case_hut : (i : ℕ) → (i < n → hut file i ≡ Some (row_at lines i).hut) × (n ≤ i → hut file i ≡ None)
   unfolding hut hut_in
   case_hut i = (
     λ l. rw ((well_formed_accepted h).verdict, matches.size, lt-ltb i n l, matches.hut i l),

@@ -2,13 +2,22 @@
 #![tactic(auto)]
 
 ghost use Rattle.std.specs.Prelude.{◌≡◌};
-ghost use Rattle.storm_case.specs.Case.{case, has_cells, read, hut as case_hut};
+ghost use Rattle.storm_case.specs.Case.{has_cells, case_from, read, hut as case_hut};
 
-use judgement::{numbers, scan};
-pub use records::{Found, body, find};
+use judgement::numbers::Number;
+pub use judgement::refusal::{Refusal, Rule};
+pub use records::{Missing, body, find};
 pub use said::{events_of, huts_of, rows_of};
 
-// What a file says: 0 or the number of a refusal with its place, the size and the window.
+// The size and the window of an accepted file.
+#[derive(Clone, Copy, PartialEq, Eq, Debug)]
+pub struct Size {
+    pub n: usize,
+    pub window: u32,
+}
+
+// The reader's answer as one record, which C gets (`serbihun_read_case`) and of which the definition `read` speaks: 0 or the number of a refusal with
+// its place, the size and the window.
 #[repr(C)]
 #[derive(Drop)]
 pub struct Case {
@@ -18,87 +27,58 @@ pub struct Case {
     pub window: u32,
 }
 
-// The hut of a row.
-#[derive(Drop)]
-pub enum Hut {
-    At(u16),
-    Absent,
-}
+impl From<Result<Size, Refusal>> for Case {
+    ghost from_gives = { λ answer case. case ≡ case_from answer };
 
-fn refused(number: u32, place: usize) -> Case
-    ensures { result ≡ case number place 0 0 }
-{
-    Case {
-        number,
-        place,
-        n: 0,
-        window: 0,
+    fn from(answer: Result<Size, Refusal>) -> Case {
+        match answer {
+            Ok(size) => Case {
+                number: 0,
+                place: 0,
+                n: size.n,
+                window: size.window,
+            },
+            Err(refusal) => Case {
+                number: refusal.rule.number(),
+                place: refusal.place,
+                n: 0,
+                window: 0,
+            },
+        }
     }
 }
 
 // Exactly 4,096 costs and 4,096 mask bytes?
+#[tactic(auto, unfolding(crate::specs::Case::has_cells))]
 pub fn has_cells(costs: usize, mask: usize) -> bool
     ensures { result ≡ has_cells costs mask }
 {
-    if costs != 4096 {
-        return false;
-    }
-    mask == 4096
+    costs == 4096 && mask == 4096
 }
 
-// Reads a file into room for 4,096 costs and 4,096 mask bytes.
-pub fn read_case(file: &[u8], costs: &mut [i32], mask: &mut [u8]) -> Case
-    ensures { (result, costs.new, mask.new) ≡ read file.now costs.old mask.old }
+// Reads a file into room for 4,096 costs and 4,096 mask bytes, two buffers as C lends them (`serbihun_read_case`).
+pub fn read_case(file: &[u8], costs: &mut [i32], mask: &mut [u8]) -> Result<Size, Refusal>
+    ensures { (case_from result, costs.new, mask.new) ≡ read file.now costs.old mask.old }
 {
     if !has_cells(costs.len(), mask.len()) {
-        return refused(20, 0);
+        return Err(Rule::Room.at(0));
     }
-    let mut fragments = [0usize; 64];
-    let mut events = [0usize; 64];
-    let scan = judgement::judge_file(file, &mut fragments, &mut events);
-    let n = scan.n;
-    let window = scan.window;
-    let judged = scan.judged;
-    match judged {
-        scan::Judged::More => refused(21, scan.at),
-        scan::Judged::Refused(number, place) => refused(number, place),
-        scan::Judged::Accepted => {
-            let cells = n * n;
-            cells::fill(
-                file,
-                scan,
-                &fragments,
-                &events,
-                &mut costs[..cells],
-                &mut mask[..cells],
-            );
-            Case {
-                number: 0,
-                place: 0,
-                n,
-                window,
-            }
-        }
-    }
+    let scan = judgement::judge_file(file)?;
+    let cells = scan.n * scan.n;
+    cells::fill(file, &scan, &mut costs[..cells], &mut mask[..cells]);
+    Ok(Size {
+        n: scan.n,
+        window: scan.window,
+    })
 }
 
-// The hut of a row of the file; absent where the row is not below n, or the file is refused.
-pub fn hut_of(file: &[u8], row: usize) -> Hut
+// The hut of a row of the file; none where the row is not below n, or the file is refused.
+pub fn hut_of(file: &[u8], row: usize) -> Option<u16>
     ensures { result ≡ case_hut file.now row }
 {
-    let mut fragments = [0usize; 64];
-    let mut events = [0usize; 64];
-    let scan = judgement::judge_file(file, &mut fragments, &mut events);
-    let n = scan.n;
-    let judged = scan.judged;
-    match judged {
-        scan::Judged::More => Hut::Absent,
-        scan::Judged::Refused(_, _) => Hut::Absent,
-        scan::Judged::Accepted => {
-            if row < n {
-                return Hut::At(numbers::u16_at(file, fragments[row] + 1));
-            }
-            Hut::Absent
-        }
-    }
+    let Ok(scan) = judgement::judge_file(file) else {
+        return None;
+    };
+    let &fragment = scan.fragments.as_slice().get(row)?;
+    Some(u16::read(file, fragment + 1))
 }

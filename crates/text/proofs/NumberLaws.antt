@@ -8,8 +8,9 @@ use native.Mathlib.Omega.{arith}
 use borrow.Author.Tests.{lt-ltb, le-ltb, ltb-true, ltb-false}
 use lib.Dec.{T, ltb}
 use lib.IntN.{ℤ, pos, negsuc, nat_abs}
-use lib.ListN.{length, get_or, length-append, length-replicate, get_or-replicate}
+use lib.ListN.{length, take, length-append, length-replicate}
 use lib.Signed.{lt_z}
+use Rattle.std.proofs.lemmas.List.{take-replicate}
 use mir.Syntax.{w64}
 use mir.Val.{SFits, to_z, of_z}
 use mir.Facts.{to_z-of_z}
@@ -73,9 +74,9 @@ pub length_blanks : (n : ℕ) → length (blanks n) ≡ n
 unfolding blanks
 length_blanks n = length-replicate n 32
 
-pub blank_at : (n i : ℕ) → i < n → get_or (blanks n) i 0 ≡ 32
+pub take_blanks : (k n : ℕ) → k ≤ n → take k (blanks n) ≡ blanks k
 unfolding blanks
-blank_at n i h = get_or-replicate n i 32 0 h
+take_blanks k n h = take-replicate k n 32 h
 
 -- ---- the text of a signed number, by its sign
 

@@ -4,6 +4,8 @@ use mathlib.Core.List.{List}
 use Prim.Native.Nat.{ℕ}
 use lib.IntN.{ℤ}
 use Rattle.text.specs.Text.{put}
+use Rattle.text.specs.Puts.{Puts}
+use Rattle.text.specs.declared.Text.{Text}
 use Rattle.text.specs.Numbers.{decimal, signed, right, refusal}
 
 module _ (out : List ℕ) (used : ℕ) where
@@ -28,3 +30,7 @@ module _ (out : List ℕ) (used : ℕ) where
 
   pub only_put_refusal : (number place : ℕ) → Only (refusal number place)
   only_put_refusal number place = only_put (refusal number place)
+
+-- the same of two texts that `put` functions left of one text
+pub only_puts : {before r s : Text} {piece : List ℕ} → Puts before piece r → Puts before piece s → ◌≡◌ {A = ℕ × List ℕ} (r.used, r.room.now) (s.used, s.room.now)
+only_puts e f = e.puts ∙ sym f.puts

@@ -2,24 +2,20 @@
 use mathlib.Core.Path.{◌≡◌, refl, sym, ap, ◌∙◌}
 use mathlib.Core.Logic.{dite}
 use mathlib.Core.List.{List, [], ◌∷◌, ◌++◌, append-nil, append_assoc}
-use Prim.Native.Nat.{ℕ, zero, suc, ◌+◌, ◌-◌, ◌≤◌, ◌<◌, min}
+use Prim.Native.Nat.{ℕ, zero, suc, ◌+◌, ◌-◌, ◌≤◌, min}
 use native.Mathlib.Decide.{dec_le}
-use native.Mathlib.Numerals.{add-one}
 use native.Mathlib.Omega.{arith}
-use lib.ListN.{length, get_or, set, take, drop, length-append, length-take, length-drop, length-set, take-append-drop}
-use lib.Seq.{take-nil, take_all, take_at, take-append-add, length-take-le, drop-length, drop-append-add, drop-drop}
-use lib.Seq.{paste, paste-zero, paste-suc, length_paste_head}
+use lib.ListN.{length, take, drop, length-append, length-take, length-drop, take-append-drop}
+use lib.Seq.{take_all, take_at, take-append-add, length-take-le, drop-append-add, drop-drop}
+use borrow.Rule.Slice.PartMut.{put_mid, Post-is}
 use Rattle.text.specs.Text.{front, put}
+use Rattle.text.specs.Puts.{Goes, Puts}
+use Rattle.text.specs.declared.Text.{Text}
 
--- a used part as long as the buffer: nothing is added
-pub put_full : (out : List ℕ) (used : ℕ) (piece : List ℕ) → length out ≤ used → (length out, out) ≡ put out used piece
-unfolding put front
-put_full out used piece h = rw (take_all used out h, take_at out piece (length out) refl, drop-length out, append-nil out)
-
-module _ (out : List ℕ) (used : ℕ) (piece : List ℕ) (h : used ≤ length out) where
-  fitting : (n : ℕ) → n ≡ min (length piece) (length out - used) → take (length out) (take used out ++ piece) ≡ take used out ++ take n piece
-  fitting n e =
-      let l : length out ≡ length (take used out) + (length out - used) = omega (arith, length-take-le used out h) in
+module _ (out : List ℕ) (used : ℕ) (piece : List ℕ) (inside : used ≤ length out) (n : ℕ) (fits : n ≡ min (length piece) (length out - used)) where
+  fitting : take (length out) (take used out ++ piece) ≡ take used out ++ take n piece
+  fitting =
+      let l : length out ≡ length (take used out) + (length out - used) = omega (arith, length-take-le used out inside) in
       ap (λ k. take k (take used out ++ piece)) l ∙ take-append-add (take used out) piece (length out - used) ∙ ap (λ t. take used out ++ t) room
     where
       room : take (length out - used) piece ≡ take n piece
@@ -28,39 +24,27 @@ module _ (out : List ℕ) (used : ℕ) (piece : List ℕ) (h : used ≤ length o
           (λ s. take_all (length out - used) piece s ∙ sym (take_all n piece (omega arith)))
           (λ s. let q : length out - used ≡ n = omega arith in rw q)
 
-  -- as much of the piece as fits was pasted behind the used part
-  pub put_pasted : (n : ℕ) → n ≡ min (length piece) (length out - used) → (used + n, paste out used piece n) ≡ put out used piece
+  -- as much of the piece as fits, behind the used part
+  pub put_behind : (ys : List ℕ) → ys ≡ take n piece → (used + n, put_mid used (used + n - used) out ys) ≡ put out used piece
   unfolding put front
-  put_pasted n e =
-      let l = length_paste_head out used piece n h (omega arith) in
-      rw (fitting n e, l)
+  put_behind ys e =
+      let l : length (take used out ++ take n piece) ≡ used + n = length-append (take used out) _ ∙ omega (arith, length-take-le used out inside, length-take n piece) in
+      rw (fitting, l, e, Post-is used (used + n) out (omega arith), append_assoc (take used out) (take n piece) (drop (used + n) out)) refl
 
--- after i turns of a loop that puts count bytes: the first i of the piece are pasted behind the used part
-pub record Pasting (before : List ℕ) (used : ℕ) (piece : List ℕ) (count : ℕ) (out : List ℕ) (i : ℕ) : Type 0 where
-  pub inside : used ≤ length before
-  pub fits : count ≡ min (length piece) (length before - used)
-  pub turns : i ≤ count
-  pub long : length out ≡ length before
-  pub pasted : out ≡ paste before used piece i
+-- ---- a used part beyond the buffer
 
-module _ {before : List ℕ} {used : ℕ} {piece : List ℕ} {count : ℕ} where
-  pub pasting_none : used ≤ length before → count ≡ min (length piece) (length before - used) → Pasting before used piece count before 0
-  pasting_none h e = record { inside = h; fits = e; turns = omega arith; long = refl; pasted = paste-zero before used piece }
+-- is all of the buffer
+pub put_at : (out : List ℕ) (used : ℕ) (piece : List ℕ) → put out used piece ≡ put out (min used (length out)) piece
+unfolding put
+put_at out used piece =
+    ap (λ text. front out (take (length out) (text ++ piece)))
+    (dite (dec_le used (length out))
+    (λ s. let q : used ≡ min used (length out) = omega arith in ap (λ k. take k out) q)
+    (λ s. take_all used out (omega arith) ∙ sym (take_all (min used (length out)) out (omega arith))))
 
-  module _ {out : List ℕ} {i : ℕ} (p : Pasting before used piece count out i) where
-    pub pasting_more : i < count → (v : ℕ) → v ≡ get_or piece i 0 → Pasting before used piece count (set out (used + i) v) (i + 1)
-    pasting_more h v e = record {
-      inside = p.inside;
-      fits = p.fits;
-      turns = omega arith;
-      long = length-set out (used + i) v ∙ p.long;
-      pasted = rw (p.pasted, e, add-one i) (paste-suc before used piece i 0 (omega (arith, p)) (omega (arith, p)));
-    }
-
-    pub pasting_all : count ≤ i → (used + count, out) ≡ put before used piece
-    pasting_all h =
-        let q : i ≡ count = omega (arith, p) in
-        rw (p.pasted, q) (put_pasted before used piece p.inside count p.fits)
+-- so a piece that is put behind so much of a lent room stands there, however much that is
+pub put_behind_at : {out piece : List ℕ} {name used : ℕ} {a b : Text} → Goes out name used a → Puts a piece b → (b.used, b.room.now) ≡ put out used piece
+put_behind_at {out} {piece} {used = used} at puts = puts.puts ∙ rw (at.same_bytes, at.used_or_all) (sym (put_at out used piece))
 
 -- ---- piece after piece
 
@@ -102,45 +86,42 @@ put_then out used a b =
     rw (front_long out text fits, front_taken out text fits, take_over (length out) (take used out ++ a) b, append_assoc (take used out) a b)
     (front_over out text fits longer h)
 
--- what a caller keeps from piece to piece: this much is used, and the buffer is so, after the text was put
+infixl 30 ◌▸◌
+-- a piece, and then another
+pub ◌▸◌ : {a b c : Text} {p q : List ℕ} → Puts a p b → Puts b q c → Puts a (p ++ q) c
+◌▸◌ {a} {p = p} {q = q} first second = record {
+  same_room = second.same_room ∙ first.same_room;
+  puts = second.puts ∙ ap (λ r. put r.1 r.0 q) first.puts ∙ put_then a.room.now a.used p q;
+}
+
+-- nothing
+pub puts_none : (t : Text) → Puts t [] t
+unfolding put front
+puts_none t =
+    let inside = t.inside in
+    let long = length-take-le t.used t.room.now inside in
+    record {
+      same_room = refl;
+      puts = rw (append-nil (take t.used t.room.now), take_all (length t.room.now) (take t.used t.room.now) (omega (arith, long, inside)), long, take-append-drop t.used t.room.now);
+    }
+
+-- how much is used, and the buffer, after a text was put behind a used part
 pub record Holds (before : List ℕ) (used : ℕ) (text : List ℕ) (r : ℕ) (out : List ℕ) : Type 0 where
   pub held : (r, out) ≡ put before used text
 
--- nothing yet, at the start of the buffer
-pub holds_none : (before : List ℕ) → Holds before 0 [] 0 before
-unfolding put front
-holds_none before = record { held = rw (take-nil {A = ℕ} (length before)) }
-
 module _ {before : List ℕ} {used : ℕ} {text : List ℕ} {r : ℕ} {out : List ℕ} (h : Holds before used text r out) where
-  pub holds_more : (piece : List ℕ) {r' : ℕ} {out' : List ℕ} → (r', out') ≡ put out r piece → Holds before used (text ++ piece) r' out'
-  holds_more piece e = record { held = e ∙ ap (λ p. put p.1 p.0 piece) h.held ∙ put_then before used text piece }
-
   -- the buffer keeps its length, and what is used lies in it
-  pub holds_long : length out ≡ length before
+  holds_long : length out ≡ length before
   unfolding put
   holds_long = ap (λ p. length p.1) h.held ∙ front_long before _ (omega (arith, length-take (length before) (take used before ++ text)))
 
-  pub holds_inside : r ≤ length before
-  unfolding put front
-  holds_inside = rw (ap (λ p. p.0) h.held, length-take (length before) (take used before ++ text)) (omega arith)
-
   -- so the used part can be lent
   pub holds_fits : r ≤ length out
-  holds_fits = omega (arith, holds_long, holds_inside)
+  unfolding put front
+  holds_fits = rw (ap (λ p. p.0) h.held, length-take (length before) (take used before ++ text), holds_long) (omega arith)
 
   pub holds_prefix : r ≡ length (take r out)
   holds_prefix = sym (length-take-le r out holds_fits)
-
-  -- nothing yet behind it
-  pub holds_begin : Holds out r [] r out
-  unfolding put front
-  holds_begin =
-      let long = length-take-le r out holds_fits in
-      record { held = rw (append-nil (take r out), take_all (length out) (take r out) (omega (arith, long, holds_fits)), long, take-append-drop r out) }
-
-  -- a text behind it
-  pub holds_then : {more : List ℕ} {r' : ℕ} {out' : List ℕ} → Holds out r more r' out' → Holds before used (text ++ more) r' out'
-  holds_then h' = holds_more _ h'.held
 
 -- a text that fits is there, whole
 pub holds_whole : {before text : List ℕ} {r : ℕ} {out : List ℕ} → Holds before 0 text r out → length text ≤ length before → take r out ≡ text

@@ -1,3 +1,4 @@
 pub mod Text
 pub mod Ascii
 pub mod Numbers
+pub mod Puts

@@ -1,130 +1,80 @@
-// Text put into a lent buffer, piece after piece. What does not fit is left out; how much is used afterwards is given back.
+// Text put into lent room, piece after piece. What does not fit is left out.
 #![tactic(auto)]
 
-ghost use Rattle.std.specs.Prelude.{◌≡◌, ◌-◌, ◌≤◌, min, length, nat_abs};
-ghost use Rattle.text.specs.Text.{put as text_put};
-ghost use Rattle.text.specs.Numbers.{decimal, signed, blanks, right, refusal};
+ghost use Rattle.std.specs.Prelude.{◌≤◌, length};
+ghost use Rattle.text.specs.Numbers.{blanks, right, refusal};
 
-fn least(a: usize, b: usize) -> usize
-    ensures { result ≡ min a b }
-{
-    if a < b { a } else { b }
+mod number;
+
+pub use number::Number;
+
+// The lent room, and how much of it the text takes. It is no `fmt::Write`: what `write!` says of the text it says only at `Ok`, and
+// nothing says that it comes to that.
+#[derive(Drop)]
+pub struct Text<'a> {
+    pub room: &'a mut [u8],
+    pub used: usize,
+    pub ghost inside: { used ≤ length room.now },
 }
 
-// Bytes as they are.
-pub fn put(out: &mut [u8], used: usize, piece: &[u8]) -> usize
-    ensures { (result, out.new) ≡ text_put out.old used piece.now }
-{
-    if out.len() < used {
-        return out.len();
+impl<'a> Text<'a> {
+    ghost use Rattle.text.specs.Puts.{Begins, Goes, Puts};
+
+    // No text yet.
+    pub fn begin(room: &'a mut [u8]) -> Text<'a>
+        ensures { Begins room.old room.entry.ghost_name result }
+    {
+        Text::at(room, 0)
     }
-    let count = least(piece.len(), out.len() - used);
-    let mut i = 0;
-    while i < count {
-        out[used + i] = piece[i];
-        i += 1;
+
+    // The text so far takes so much of the room, or all of it.
+    pub fn at(room: &'a mut [u8], used: usize) -> Text<'a>
+        ensures { Goes room.old room.entry.ghost_name used result }
+    {
+        let used = used.min(room.len());
+        Text { room, used }
     }
-    used + count
-}
 
-// So many blanks.
-fn put_blanks(out: &mut [u8], used: usize, wanted: usize) -> usize
-    ensures { (result, out.new) ≡ text_put out.old used (blanks wanted) }
-{
-    if out.len() < used {
-        return out.len();
+    // Bytes as they are.
+    pub fn put(&mut self, piece: &[u8])
+        ensures { Puts self.old piece.now self.new }
+    {
+        let count = piece.len().min(self.room.len() - self.used);
+        self.room[self.used..self.used + count].copy_from_slice(&piece[..count]);
+        self.used += count;
     }
-    let count = least(wanted, out.len() - used);
-    let mut i = 0;
-    while i < count {
-        out[used + i] = b' ';
-        i += 1;
+
+    fn put_blanks(&mut self, wanted: usize)
+        ensures { Puts self.old (blanks wanted) self.new }
+    {
+        let count = wanted.min(self.room.len() - self.used);
+        self.room[self.used..self.used + count].fill(b' ');
+        self.used += count;
     }
-    used + count
-}
 
-// A number in decimal.
-pub fn put_decimal(out: &mut [u8], used: usize, n: u64) -> usize
-    ensures { (result, out.new) ≡ text_put out.old used (decimal n) }
-{
-    let mut digits = [0u8; 20];
-    let count = io::decimal(n, &mut digits);
-    put(out, used, &digits[..count])
-}
-
-// The lowest number has a magnitude that no i64 holds: 1 is added before its sign is changed, and after.
-fn magnitude(z: i64) -> u64
-    ensures { result ≡ nat_abs z }
-{
-    if z < 0 {
-        return (-(z + 1)) as u64 + 1;
+    // A number's digits.
+    pub fn put_number<N: Number>(&mut self, n: N)
+        ensures { Puts self.old (N.digits n) self.new }
+    {
+        n.put(self);
     }
-    z as u64
-}
 
-// A signed number in decimal.
-pub fn put_signed(out: &mut [u8], used: usize, z: i64) -> usize
-    ensures { (result, out.new) ≡ text_put out.old used (signed z) }
-{
-    let size = magnitude(z);
-    if z < 0 {
-        let at = put(out, used, b"-");
-        return put_decimal(out, at, size);
+    // A number at the right end of a width.
+    pub fn put_right<N: Number>(&mut self, width: usize, n: N)
+        ensures { Puts self.old (right width (N.digits n)) self.new }
+    {
+        self.put_blanks(width.saturating_sub(n.length()));
+        n.put(self);
     }
-    put_decimal(out, used, size)
-}
 
-fn decimal_length(n: u64) -> usize
-    ensures value { result ≡ length (decimal n) }
-    ensures upper_bound { result ≤ 20 }
-{
-    let mut digits = [0u8; 20];
-    io::decimal(n, &mut digits)
-}
-
-fn signed_length(z: i64) -> usize
-    ensures { result ≡ length (signed z) }
-{
-    let digits = decimal_length(magnitude(z));
-    if z < 0 {
-        return 1 + digits;
+    // The line of a refusal, which every program prints alike.
+    pub fn put_refusal(&mut self, number: u32, place: usize)
+        ensures { Puts self.old (refusal number place) self.new }
+    {
+        self.put(b"REFUSED ");
+        self.put_number(number);
+        self.put(b" AT ");
+        self.put_number(place);
+        self.put(b"\n");
     }
-    digits
-}
-
-// What is left of a width.
-fn left_of(width: usize, taken: usize) -> usize
-    ensures { result ≡ width - taken }
-{
-    if taken < width {
-        return width - taken;
-    }
-    0
-}
-
-// A signed number at the right end of a width.
-pub fn put_right(out: &mut [u8], used: usize, width: usize, z: i64) -> usize
-    ensures { (result, out.new) ≡ text_put out.old used (right width (signed z)) }
-{
-    let at = put_blanks(out, used, left_of(width, signed_length(z)));
-    put_signed(out, at, z)
-}
-
-// A number at the right end of a width.
-pub fn put_decimal_right(out: &mut [u8], used: usize, width: usize, n: u64) -> usize
-    ensures { (result, out.new) ≡ text_put out.old used (right width (decimal n)) }
-{
-    let at = put_blanks(out, used, left_of(width, decimal_length(n)));
-    put_decimal(out, at, n)
-}
-
-// The line of a refusal, which every program prints alike.
-pub fn put_refusal(out: &mut [u8], used: usize, number: u32, place: usize) -> usize
-    ensures { (result, out.new) ≡ text_put out.old used (refusal number place) }
-{
-    let after_word = put(out, used, b"REFUSED ");
-    let after_number = put_decimal(out, after_word, number as u64);
-    let after_at = put(out, after_number, b" AT ");
-    let after_place = put_decimal(out, after_at, place as u64);
-    put(out, after_place, b"\n")
 }

@@ -3,121 +3,92 @@
 #![tactic(auto)]
 
 mod call;
-mod numbers;
 mod tally;
 mod words;
 
-use call::{Tried, call};
-use input::Input;
+ghost use Rattle.input.specs.Within.{Within};
+
+use call::call;
 use std::fs::File;
+use std::io;
 use tally::Tally;
-use words::{BEHIND, after_word, line_end, next_word};
+use words::{Misread, Words};
 
-fn print_part(out: &impl Print, text: &[u8], start: usize, end: usize) {
-    if text.len() < end {
-        return;
-    }
-    if end < start {
-        return;
-    }
-    let _ = out.write_all(&text[start..end]);
-}
-
-// The line from `from` on, behind what is to be said of it.
-fn print_line(out: &impl Print, what: &[u8], text: &[u8], from: usize) {
-    let _ = out.write_all(what);
-    print_part(out, text, from, line_end(text, from));
+// A line: what is said, and of what.
+fn print_line(out: &impl Print, said: &[u8], of: &[u8]) {
+    let _ = out.write_all(said);
+    let _ = out.write_all(of);
     let _ = out.write_all(b"\n");
 }
 
-// All calls of a trial: passed where each is.
-fn try_calls(text: &[u8], from: usize) -> Tried {
-    let mut tried = call(text, from);
-    let mut passed = tried.passed;
-    let mut next = after_word(text, tried.at, b"and");
-    let mut turns = BEHIND;
-    while turns > 0 && next != BEHIND {
-        tried = call(text, next);
-        passed = passed & tried.passed;
-        next = after_word(text, tried.at, b"and");
-        turns -= 1;
+// All calls of a trial, of which there are at most so many: passed where each is kept.
+fn try_calls(words: &mut Words<'_>, most: usize) -> Result<bool, Misread> {
+    let mut passed = call(words)?;
+    for _ in 0..most {
+        if !words.passes(b"and") {
+            break;
+        }
+        passed &= call(words)?;
     }
-    Tried {
-        at: tried.at,
-        passed,
-    }
+    Ok(passed)
 }
 
-fn try_one(out: &impl Print, text: &[u8], name: usize, tally: Tally) -> Tally {
-    let tried = try_calls(text, line_end(text, name));
-    if tried.at == BEHIND {
-        print_line(out, b"MISREAD", text, name);
-        return tally::stopped(tally);
-    }
-    if !tried.passed {
-        print_line(out, b"FAILED", text, name);
-    }
-    tally::counted(tally, tried.at, tried.passed)
-}
-
-fn end_group(out: &impl Print, text: &[u8], from: usize, tally: Tally) -> Tally {
-    let end = line_end(text, from);
-    print_part(out, text, next_word(text, from), end);
-    tally::end_group(out, tally, end)
-}
-
-fn try_next(out: &impl Print, text: &[u8], tally: Tally) -> Tally {
-    let name = after_word(text, tally.at, b"trial");
-    if name != BEHIND {
-        return try_one(out, text, name, tally);
-    }
-    let group = after_word(text, tally.at, b"tally");
-    if group != BEHIND {
-        return end_group(out, text, group, tally);
-    }
-    let word = next_word(text, tally.at);
-    if word < text.len() {
-        print_line(out, b"MISREAD ", text, word);
-    }
-    tally::stopped(tally)
-}
-
+// Tries all, and gives how many passed.
 fn try_all(out: &impl Print, text: &[u8]) -> Tally {
-    let mut tally = Tally {
-        at: 0,
-        more: true,
-        passed: 0,
-        tried: 0,
-        group_passed: 0,
-        group_tried: 0,
-    };
-    let mut turns = BEHIND;
-    while turns > 0 && tally.more {
-        tally = try_next(out, text, tally);
-        turns -= 1;
+    let mut words = Words::new(text);
+    let mut all = Tally::default();
+    let mut group = Tally::default();
+    // Each turn passes a word, so there are fewer turns than bytes; that the rest gets shorter would stand in the contract of all that reads.
+    for _ in 0..text.len() {
+        if words.passes(b"trial") {
+            let name = words.line();
+            let Ok(passed) = try_calls(&mut words, text.len()) else {
+                print_line(out, b"MISREAD", name);
+                break;
+            };
+            if !passed {
+                print_line(out, b"FAILED", name);
+            }
+            all.count(passed);
+            group.count(passed);
+        } else if words.passes(b"tally") {
+            let mut name = Words::new(words.line());
+            name.pass_gap();
+            let _ = out.write_all(name.line());
+            let _ = println!(out; " {group}");
+            group = Tally::default();
+        } else {
+            words.pass_gap();
+            let line = words.line();
+            if !line.is_empty() {
+                print_line(out, b"MISREAD ", line);
+            }
+            break;
+        }
     }
-    tally
+    all
+}
+
+fn read_trials(rt: &HostRuntime, room: &mut [u8]) -> io::Result<usize>
+    ensures { Within result room.new }
+{
+    let mut file = File::open(rt, "trials")?;
+    input::read(&mut file, room)
 }
 
 fn main(rt: HostRuntime) {
-    let mut file = match File::open(&rt, "trials") {
-        Ok(file) => file,
+    let mut text = [0u8; 65_536];
+    let length = match read_trials(&rt, &mut text) {
+        Ok(length) => length,
         Err(error) => {
             let _ = input::fail(&mut rt.stderr(), b"trials", error);
             return;
         }
     };
-    let mut text = [0u8; BEHIND];
-    let length = match input::read(&mut file, &mut text) {
-        Input::Read(length) => length,
-        Input::Failed(error) => {
-            let _ = input::fail(&mut rt.stderr(), b"trials", error);
-            return;
-        }
-    };
-    if BEHIND <= length {
+    if length == text.len() {
         let _ = rt.write_all(b"MISREAD: too long\n");
         return;
     }
-    tally::end(&rt, try_all(&rt, &text[..length]));
+    let all = try_all(&rt, &text[..length]);
+    let _ = println!(rt; "{all} trials passed");
 }

@@ -11,9 +11,7 @@ use lib.Dec.{eqb}
 use lib.ListN.{get_or, take}
 use lib.Seq.{get_or-take}
 use Rattle.pairing.specs.declared.Pairs.{Pairs}
-use Rattle.text.specs.Text.{put}
 use Rattle.text.specs.Numbers.{refusal}
-use Rattle.text.proofs.PutLaws.{Holds, holds_more}
 use Rattle.valley.specs.Lines.{row_line, row_lines, total_line, no_pairing, lines}
 
 -- one more row's line, at the code's `row + 1`
@@ -36,13 +34,6 @@ module _ (huts : List ℕ) (p : Pairs) (columns : List ℕ) where
   pub lines_paired : p.number ≡ 0 → lines huts p columns ≡ row_lines huts columns p.n ++ total_line p.total
   unfolding lines
   lines_paired e = rw e
-
-  -- the rows were put, and the total behind them
-  pub paired_put : (out : List ℕ) {r r' : ℕ} {now now' : List ℕ} → p.number ≡ 0 → (r, now) ≡ put out 0 (row_lines huts columns p.n)
-      → (r', now') ≡ put now r (total_line p.total) → (r', now') ≡ put out 0 (lines huts p columns)
-  paired_put out {r} {r'} {now} {now'} e rows total =
-      let first : Holds out 0 (row_lines huts columns p.n) r now = record { held = rows } in
-      rw (lines_paired e) (holds_more first (total_line p.total) total).held
 
   pub lines_none : p.number ≡ 6 → lines huts p columns ≡ no_pairing
   unfolding lines

@@ -5,21 +5,23 @@
 mod print;
 mod report;
 
-use input::Input;
+use std::io;
 
-// An accepted file has at most 1,032 bytes, and what is printed of a file at most 594.
-fn main(rt: HostRuntime) {
+// What fails is named beside the error. An accepted file has at most 1,032 bytes, and what is printed of a file at most 594.
+fn print_pairing(rt: &HostRuntime) -> Result<(), (&'static str, io::Error)> {
     let mut file = [0u8; 4096];
-    let count = match input::read(&mut rt.stdin(), &mut file) {
-        Input::Read(count) => count,
-        Input::Failed(error) => {
-            let _ = input::fail(&mut rt.stderr(), b"valley: standard input", error);
-            return;
-        }
-    };
+    let count = input::read(&mut rt.stdin(), &mut file).map_err(|error| (
+        "valley: standard input",
+        error,
+    ))?;
     let mut out = [0u8; 1024];
     let used = report::report(&file[..count], &mut out);
-    if let Err(error) = rt.write_all(&out[..used]) {
-        let _ = input::fail(&mut rt.stderr(), b"valley: standard output", error);
+    rt.write_all(&out[..used])
+        .map_err(|error| ("valley: standard output", error))
+}
+
+fn main(rt: HostRuntime) {
+    if let Err((what, error)) = print_pairing(&rt) {
+        let _ = input::fail(&mut rt.stderr(), what.as_bytes(), error);
     }
 }

@@ -1,62 +1,54 @@
-// The lines that are printed, put into a lent buffer. Fixed words are byte strings.
+// The lines that are printed, put into a text. Fixed words are byte strings.
 ghost use Rattle.std.specs.Prelude.{◌≡◌, get_or};
-ghost use Rattle.text.specs.Text.{put};
+ghost use Rattle.text.specs.Puts.{Puts};
 ghost use Rattle.valley.specs.Lines.{row_line, row_lines, total_line, lines as lines_lines};
 
 use pairing::Pairs;
+use text::Text;
 
-fn put_row(out: &mut [u8], used: usize, hut: u16, column: u16) -> usize
-    ensures { (result, out.new) ≡ put out.old used (row_line hut column) }
+fn put_row(text: &mut Text, hut: u16, column: u16)
+    ensures { Puts text.old (row_line hut column) text.new }
 {
-    let after_hut = text::put_decimal(out, used, hut as u64);
-    let after_blank = text::put(out, after_hut, b" ");
-    let after_column = text::put_decimal(out, after_blank, column as u64);
-    text::put(out, after_column, b"\n")
+    text.put_number(hut);
+    text.put(b" ");
+    text.put_number(column);
+    text.put(b"\n");
 }
 
 // What a row has; past the end, 0.
 fn of_row(numbers: &[u16], row: usize) -> u16
     ensures { result ≡ get_or numbers.now row 0 }
 {
-    if row < numbers.len() {
-        return numbers[row];
-    }
-    0
+    numbers.get(row).copied().unwrap_or(0)
 }
 
 // The lines of the first n rows.
-fn put_rows(huts: &[u16], n: usize, columns: &[u16], out: &mut [u8]) -> usize
-    ensures { (result, out.new) ≡ put out.old 0 (row_lines huts.now columns.now n) }
+fn put_rows(text: &mut Text, huts: &[u16], n: usize, columns: &[u16])
+    ensures { Puts text.old (row_lines huts.now columns.now n) text.new }
 {
-    let mut used = 0;
-    let mut row = 0;
-    while row < n {
-        let hut = of_row(huts, row);
-        let column = of_row(columns, row);
-        used = put_row(out, used, hut, column);
-        row += 1;
+    for row in 0..n {
+        put_row(text, of_row(huts, row), of_row(columns, row));
     }
-    used
 }
 
-fn put_total(out: &mut [u8], used: usize, total: i64) -> usize
-    ensures { (result, out.new) ≡ put out.old used (total_line total) }
+fn put_total(text: &mut Text, total: i64)
+    ensures { Puts text.old (total_line total) text.new }
 {
-    let after_word = text::put(out, used, b"TOTAL ");
-    let after_total = text::put_signed(out, after_word, total);
-    text::put(out, after_total, b"\n")
+    text.put(b"TOTAL ");
+    text.put_number(total);
+    text.put(b"\n");
 }
 
-// All lines, by the answer's number.
-pub(crate) fn lines(huts: &[u16], pairs: Pairs, columns: &[u16], out: &mut [u8]) -> usize
-    ensures { (result, out.new) ≡ put out.old 0 (lines_lines huts.now pairs columns.now) }
+// All lines, by the number of `Pairs`, the record that C gets: 0 paired, 6 no pairing.
+pub(crate) fn put_lines(text: &mut Text, huts: &[u16], pairs: Pairs, columns: &[u16])
+    ensures { Puts text.old (lines_lines huts.now pairs columns.now) text.new }
 {
     if pairs.number == 0 {
-        let used = put_rows(huts, pairs.n, columns, out);
-        return put_total(out, used, pairs.total);
+        put_rows(text, huts, pairs.n, columns);
+        put_total(text, pairs.total);
+    } else if pairs.number == 6 {
+        text.put(b"NO PAIRING\n");
+    } else {
+        text.put_refusal(pairs.number, pairs.place);
     }
-    if pairs.number == 6 {
-        return text::put(out, 0, b"NO PAIRING\n");
-    }
-    text::put_refusal(out, 0, pairs.number, pairs.place)
 }

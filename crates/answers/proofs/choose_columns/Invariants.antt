@@ -1,5 +1,5 @@
 -- `choose_columns` gives each row the column of its star, and the total of their costs. The loop's invariant: the columns and the sum of the rows so far.
-use Prim.Native.Nat.{ℕ, ◌≤◌, ◌-◌}
+use Prim.Native.Nat.{ℕ}
 use mathlib.Core.Path.{◌≡◌}
 use mathlib.Core.List.{List}
 use lib.IntN.{ℤ}
@@ -15,7 +15,4 @@ star_cost n costs marks i = cost_at n costs i (star_in_row n marks i)
 
 abbrev pub invariant-loop-row : goal.invariant-loop-row
 invariant-loop-row l =
-    (l.row ≤ l.n) × Passed 0 (λ i x. star_in_row l.n l.marks i) l.initial.columns l.columns l.row × (l.sum ≡ sumℤ (star_cost l.n l.costs l.marks) l.row)
-
-abbrev pub decreases-loop-row : goal.decreases-loop-row
-decreases-loop-row l = l.n - l.row
+    Passed 0 (λ i x. star_in_row l.matrix.n l.marks i) l.initial.columns l.columns l.row × (l.sum ≡ sumℤ (star_cost l.matrix.n l.matrix.costs.now l.marks) l.row)

@@ -9,13 +9,13 @@ use Rattle.answers.proofs.finish.Goals as goal
 
 pub returns-in-Paired : goal.returns-in-Paired
 returns-in-Paired c =
-    let chosen = c.choose_columns-total in
+    let chosen = c.choose_columns in
     let f : SFits w64 chosen.result = search rules in
-    given_paired _ _ _ _ _ c.in-Paired.is chosen.ensures.0 (to_z-of_z f ∙ chosen.ensures.1) c.answer.ensures
+    given_paired _ _ _ _ _ c.in-Paired.is chosen.ensures.0 (to_z-of_z f ∙ chosen.ensures.1) (rw c.counted-counts.ensures)
 
 pub returns-in-NoPairing : goal.returns-in-NoPairing
 returns-in-NoPairing c =
-    given_blocked _ _ _ _ _ c.in-NoPairing.is c.uncovered_lines.ensures c.uncovered_lines-in-NoPairing.ensures c.answer-in-NoPairing.ensures
+    given_blocked _ _ _ _ _ c.in-NoPairing.is c.uncovered_lines.ensures c.uncovered_lines-in-NoPairing.ensures (rw c.counted-counts.ensures)
 
 pub returns-in_default : goal.returns-in_default
-returns-in_default c = given_spent _ _ _ _ _ c.args.run.next c.requires.ended c.in_default.not-Paired c.in_default.not-NoPairing c.answer-in_default.ensures
+returns-in_default c = given_spent _ _ _ _ _ c.args.run.next c.requires.ended c.in_default.not-Paired c.in_default.not-NoPairing (rw c.counted-counts.ensures)

@@ -1,9 +1,10 @@
 -- `put_huts` leaves the room as it is at 20, and else fills it.
+use Rattle.std.proofs.Common.{sym, ◌∙◌}
 use Rattle.case_face.proofs.HutLaws.{huts_kept, huts_put}
 use Rattle.case_face.proofs.put_huts.Goals as goal
 
-pub returns-then-number-eq20 : goal.returns-then-number-eq20
-returns-then-number-eq20 c = huts_kept _ _ _ c.if-number-eq20.true
+pub returns-then-number : goal.returns-then-number
+returns-then-number c = huts_put _ _ _ (λ e. c.if-number.true (e ∙ sym c.number.ensures)) c.huts_of.ensures
 
-pub returns : goal.returns
-returns c = huts_put _ _ _ c.if-number-eq20.false c.huts_of.ensures
+pub returns-else-number : goal.returns-else-number
+returns-else-number c = huts_kept _ _ _ (c.if-number.false ∙ c.number.ensures)

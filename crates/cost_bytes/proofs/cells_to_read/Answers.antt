@@ -1,17 +1,10 @@
 -- `cells_to_read` counts the costs of n rows where the bytes are exactly theirs.
-use native.Mathlib.Nat.{mul-le-mul}
 use native.Mathlib.Omega.{arith}
 use Rattle.cost_bytes.proofs.ByteLaws.{readable_large, readable_none, readable_all}
 use Rattle.cost_bytes.proofs.cells_to_read.Goals as goal
 
 pub returns-then-n-gt64 : goal.returns-then-n-gt64
 returns-then-n-gt64 c = readable_large _ _ c.if-n-gt64.true
-
-pub overflow_mul-cells : goal.overflow_mul-cells
-overflow_mul-cells c = omega (arith, mul-le-mul c.if-n-gt64.false c.if-n-gt64.false)
-
-pub overflow_mul-cells-2 : goal.overflow_mul-cells-2
-overflow_mul-cells-2 c = omega (arith, mul-le-mul c.if-n-gt64.false c.if-n-gt64.false)
 
 pub returns-then-bytes-cells : goal.returns-then-bytes-cells
 returns-then-bytes-cells c = readable_none _ _ c.if-n-gt64.false (λ e. omega arith)

@@ -14,5 +14,5 @@ filled a n room part rest h l =
 pub loop-count-preserved : goal.loop-count-preserved
 loop-count-preserved g c =
     let before = c.loop-count.invariant in
-    let more = c.in-Ok.ensures in
+    let more = c.in_ok-more.ensures in
     (search rules, search rules, rw (filled _ _ _ _ _ before.0 more.bound.0) (Consumes-trans _ _ _ _ _ before.2 more.bytes.0))

@@ -1,28 +1,26 @@
 -- `judge_file` meets its contract: the rest of the records gives the file's verdict (`Judging`); each record takes at least one byte.
-use native.Mathlib.Omega.{arith}
-use mathlib.Core.Path.{sym, ◌∙◌}
-use Rattle.judgement.proofs.ViewLaws.{judging_here, judging_over, judging_next, judging_falls}
+use Rattle.std.proofs.Common.{sym, ap, ◌∙◌}
+use Rattle.std.specs.Prelude.{Ok}
+use Rattle.std.proofs.lemmas.Result.{err_from_is_err_and}
+use Rattle.judgement.specs.View.{view_judged}
+use Rattle.judgement.proofs.ViewLaws.{judging_start, judging_refused, judging_accepted, judging_further}
 use Rattle.judgement.proofs.judge_file.Goals as goal
 
 pub loop-scan-init : goal.loop-scan-init
-loop-scan-init c = let pre = c.requires in rw c.start-scan.ensures (judging_here _ _ _ pre.0 pre.1)
+loop-scan-init c = rw c.start-scan.ensures (judging_start _)
 
-pub shape_of-fragments-then-is_over : goal.shape_of-fragments-then-is_over
-shape_of-fragments-then-is_over c = omega (arith, c.loop-scan.invariant.consistent.rows.room, c.requires.0)
+pub returns-in_err-judge_record : goal.returns-in_err-judge_record
+returns-in_err-judge_record c =
+    let p = err_from_is_err_and c.from_residual.result c.from_residual.ensures.1 in
+    rw (p.1, p.2) (judging_refused c.loop-scan.invariant c.in_err-judge_record.ensures)
 
-pub shape_of-events-then-is_over : goal.shape_of-events-then-is_over
-shape_of-events-then-is_over c = omega (arith, c.loop-scan.invariant.consistent.columns.room, c.requires.1)
-
-pub returns-then-is_over : goal.returns-then-is_over
-returns-then-is_over c = judging_over c.loop-scan.invariant (sym c.is_over.ensures ∙ c.if-is_over.true)
-
-pub judge_record-scan-requires : goal.judge_record-scan-requires
-judge_record-scan-requires c = c.loop-scan.invariant.consistent
+pub returns-in-End : goal.returns-in-End
+returns-in-End c =
+    judging_accepted c.loop-scan.invariant
+    (ap (λ kind. view_judged (Ok kind) c.judge_record.new.self) (sym c.in-End.is) ∙ c.in_ok-judge_record.ensures)
 
 pub loop-scan-smaller : goal.loop-scan-smaller
-loop-scan-smaller c =
-    judging_falls c.loop-scan.invariant (sym c.is_over.ensures ∙ c.if-is_over.false) c.judge_record-scan.ensures
+loop-scan-smaller c = (judging_further c.loop-scan.invariant c.in_ok-judge_record.field-0 c.in_default.not-End c.in_ok-judge_record.ensures).1
 
 pub loop-scan-preserved : goal.loop-scan-preserved
-loop-scan-preserved c =
-    judging_next c.loop-scan.invariant (sym c.is_over.ensures ∙ c.if-is_over.false) c.judge_record-scan.ensures
+loop-scan-preserved c = (judging_further c.loop-scan.invariant c.in_ok-judge_record.field-0 c.in_default.not-End c.in_ok-judge_record.ensures).0

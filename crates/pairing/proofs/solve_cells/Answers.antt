@@ -1,14 +1,9 @@
 -- `solve_cells` lends the front of each buffer to the solver, and keeps its promise.
-use native.Mathlib.Omega.{arith}
 use Rattle.steps.specs.Lent.{buffers}
 use Rattle.pairing.specs.Pair.{Loan, loan, front}
-use Rattle.lines.proofs.Bounds.{cells_fit}
 use Rattle.pairing.proofs.Fronts.{Fronts, fronts}
 use Rattle.pairing.proofs.PairLaws.{solved_front}
 use Rattle.pairing.proofs.solve_cells.Goals as goal
-
-pub overflow_mul-cells : goal.overflow_mul-cells
-overflow_mul-cells c = let cells = cells_fit c.requires.0 in omega arith
 
 pub slice_bounds-solve_assignment-end : goal.slice_bounds-solve_assignment-end
 slice_bounds-solve_assignment-end c =
@@ -63,10 +58,10 @@ unfolding front
 returns c =
     let lent : Loan = let a = c.args in
     loan a.costs.now a.mask.now (buffers a.working.now a.marks.now a.columns.now a.row_prices.now a.column_prices.now) in
-    let lent_fronts : Fronts c.args.n lent = fronts lent c.requires.0 c.requires.1 in
+    let lent_fronts : Fronts c.args.size.n lent = fronts lent c.requires.0 c.requires.1 in
     let kept = c.solve_assignment-answer.auto in
     let last = c.solve_assignment-answer.new in
     let after = buffers last.working last.marks last.columns last.row_prices last.column_prices in
     solved_front {l = lent} {after = after} lent_fronts
     (record { working = kept.working; marks = kept.marks; columns = kept.columns; row_prices = kept.row_prices; column_prices = kept.column_prices })
-    c.enough-budget.ensures c.paired.ensures c.solve_assignment-answer.ensures
+    c.enough.ensures c.paired.ensures c.solve_assignment-answer.ensures

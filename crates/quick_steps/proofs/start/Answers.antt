@@ -1,9 +1,10 @@
 -- `start` leaves what steps 1 and 2 leave (`Started`): each call gives one part of it.
-use mathlib.Core.Path.{ap, ◌∙◌}
+use mathlib.Core.Path.{refl, ap, ◌∙◌}
 use native.Mathlib.Omega.{arith}
 use lib.IntN.{pos}
+use lib.ListN.{length}
 use Rattle.lines.specs.Square.{table}
-use Rattle.lines.proofs.Squares.{table_at}
+use Rattle.lines.proofs.Squares.{table_at, length_table}
 use Rattle.keyed.proofs.Fills.{cheapest_below, none_before, prices_are, prices_small}
 use Rattle.quick_steps.proofs.start.Goals as goal
 
@@ -11,9 +12,9 @@ pub set_row_prices-requires : goal.set_row_prices-requires
 set_row_prices-requires c =
     let pre = c.requires in
     record {
+      most = pre.fills.most;
       costs_square = pre.fills.costs_square;
       row_lines = pre.row_lines;
-      cheapest_long = omega (arith, pre.cheapest_long);
       below = λ i h. cheapest_below _ _ _ pre.fills.most (pre.rows i h) h (c.fill.ensures.1 i h);
     }
 
@@ -26,26 +27,23 @@ star_rows-requires c =
       mask_square = pre.fills.mask_square;
       prices = c.set_row_prices.ensures ∙ prices_are _ _ _ _ pre.fills.most pre.rows c.fill.ensures.1;
       small = prices_small _ _ _ _ pre.fills.most pre.rows c.fill.ensures.1;
-      cheapest_long = omega (arith, pre.cheapest_long);
       before = λ i h. none_before _ _ _ pre.fills.most (pre.rows i h) h (c.fill.ensures.1 i h);
-      star_long = pre.star_long;
-      owner_long = pre.owner_long;
     }
 
 pub returns : goal.returns
 returns c =
     let pre = c.requires in
     record {
-      begun = c.begun-begun.ensures;
+      begun = c.begun.ensures;
       table = c.fill.ensures.0;
       row_prices_are = c.set_row_prices.ensures ∙ prices_are _ _ _ _ pre.fills.most pre.rows c.fill.ensures.1;
       column_prices_are = c.clear_prices.ensures ∙ ap (table (λ j. pos 0)) pre.column_lines;
-      star_long = omega (arith, pre.star_long);
-      owner_long = omega (arith, pre.owner_long);
-      prime_long = omega (arith, pre.prime_long);
-      star_is = c.star_rows.ensures.0;
-      owner_is = c.star_rows.ensures.1;
-      no_prime = λ i hi. rw c.clear.ensures (table_at 0 _ _ i (omega (arith, pre.prime_long)));
-      cheapest_long = omega (arith, pre.cheapest_long);
-      none_known = λ i hi. rw c.clear-2.ensures (table_at 0 _ _ i (omega (arith, pre.cheapest_long)));
+      star_long = rw c.clear_primes.ensures.star c.star_rows.ensures.long.0;
+      owner_long = rw c.clear_primes.ensures.owner c.star_rows.ensures.long.1;
+      prime_long = rw (c.clear_primes.ensures.prime, length_table (λ k. c.args.matrix.n) (length c.star_rows.new.self.prime)) c.star_rows.ensures.long.2;
+      star_is = rw c.clear_primes.ensures.star c.star_rows.ensures.star;
+      owner_is = rw c.clear_primes.ensures.owner c.star_rows.ensures.owner;
+      no_prime = λ i hi. rw c.clear_primes.ensures.prime (table_at 0 _ _ i (omega (arith, hi, c.star_rows.ensures.long.2)));
+      cheapest_long = omega (arith, c.fill-2.ensures.len, pre.fills.most);
+      none_known = λ i hi. c.fill-2.ensures.clones i 0 (omega (arith, hi, pre.fills.most)) refl;
     }

@@ -1,82 +1,54 @@
--- `judge` meets its contract: at each place of the code, what the rules so far leave of the judgement (`past_1` to `past_5`).
+-- `judge` meets its contract: at each place of the code, what the rules so far leave of the judgement.
 use mathlib.Core.Path.{sym, ◌∙◌}
+use native.Mathlib.Omega.{arith}
+use borrow.Author.Tests.{ltb-false}
 use Rattle.rules.proofs.JudgeLaws as J
 use Rattle.rules.proofs.judge.Goals as goal
 
--- ---- rules 1 and 2: n
+pub returns-in_err-check_rows : goal.returns-in_err-check_rows
+returns-in_err-check_rows c =
+    let from = (J.from_1 _ _ _ _ _) in
+    J.refused_by _ _ c.from_residual.ensures.1 (J.stops _ _ _ _ _ _ _ from c.in_err-check_rows.ensures)
 
-pub returns-then-n-eq0 : goal.returns-then-n-eq0
-returns-then-n-eq0 c = sym (J.rule_1 _ _ _ _ _ c.if-n-eq0.true)
+pub returns-in_err-check_limit : goal.returns-in_err-check_limit
+returns-in_err-check_limit c =
+    let from = (J.goes_on _ _ _ _ _ _ _ (J.from_1 _ _ _ _ _) c.in_ok-check_rows.ensures) in
+    J.refused_by _ _ c.from_residual-in_err-check_limit.ensures.1 (J.stops _ _ _ _ _ _ _ from c.in_err-check_limit.ensures)
 
-pub returns-then-limit-n : goal.returns-then-limit-n
-returns-then-limit-n c =
-    let past_1 = J.past_1 _ _ _ _ _ c.if-n-eq0.false in
-    sym (J.rule_2 _ _ _ _ _ past_1 c.if-limit-n.true)
+pub check_lengths-requires : goal.check_lengths-requires
+check_lengths-requires c =
+    let within = ltb-false _ _ (J.passed _ c.in_ok-check_limit.ensures) in
+    omega (arith, within, c.ranges.limit.fits)
 
--- ---- rule 3: the lengths
+pub returns-in_err-check_lengths : goal.returns-in_err-check_lengths
+returns-in_err-check_lengths c =
+    let from = (J.past_limit _ _ _ _ _ c.in_ok-check_rows.ensures c.in_ok-check_limit.ensures) in
+    J.refused_by _ _ c.from_residual-in_err-check_lengths.ensures.1 (J.stops _ _ _ _ _ _ _ from c.in_err-check_lengths.ensures)
 
-pub returns-then-not-has_lengths : goal.returns-then-not-has_lengths
-returns-then-not-has_lengths c =
-    let past_1 = J.past_1 _ _ _ _ _ c.if-n-eq0.false in
-    let past_2 = J.past_2 _ _ _ _ _ past_1 c.if-limit-n.false in
-    sym (J.rule_3 _ _ _ _ _ past_2 (sym c.has_lengths.ensures ∙ c.if-not-has_lengths.true))
+pub returns-in_err-check_mask : goal.returns-in_err-check_mask
+returns-in_err-check_mask c =
+    let from = (J.past_lengths _ _ _ _ _ c.in_ok-check_rows.ensures c.in_ok-check_limit.ensures c.in_ok-check_lengths.ensures) in
+    let here = J.at_cells _ _ _ _ _ c.in_ok-check_rows.ensures c.in_ok-check_limit.ensures c.in_ok-check_lengths.ensures _ _ c.in_err-check_mask.ensures in
+    J.refused_by _ _ c.from_residual-in_err-check_mask.ensures.1 (J.stops _ _ _ _ _ _ _ from here)
 
--- ---- rule 4: the mask
+pub check_costs-requires : goal.check_costs-requires
+check_costs-requires c = let lengths = J.lengths_passed c.args.limit _ c.args.costs.now c.args.mask.now _ c.in_ok-check_lengths.ensures in lengths.costs_length ∙ sym lengths.mask_length
 
-pub returns-then-has_bad_mask : goal.returns-then-has_bad_mask
-returns-then-has_bad_mask c =
-    let past_1 = J.past_1 _ _ _ _ _ c.if-n-eq0.false in
-    let past_2 = J.past_2 _ _ _ _ _ past_1 c.if-limit-n.false in
-    let lengths_right = J.lengths_are c.args.limit _ c.args.costs.now c.args.mask.now _ (sym c.has_lengths.ensures ∙ c.if-not-has_lengths.false) in
-    let past_3 = J.past_3 _ _ _ _ _ past_2 (sym c.has_lengths.ensures ∙ c.if-not-has_lengths.false) in
-    let size = lengths_right.mask_length in
-    sym (J.rule_4 _ _ _ _ _ past_3 (J.asked _ c.has_bad_mask.ensures size ∙ c.if-has_bad_mask.true) (J.place _ c.find_bad_mask-bad_mask.ensures size))
+pub returns-in_err-check_costs : goal.returns-in_err-check_costs
+returns-in_err-check_costs c =
+    let from = (J.past_mask _ _ _ _ _ c.in_ok-check_rows.ensures c.in_ok-check_limit.ensures c.in_ok-check_lengths.ensures c.in_ok-check_mask.ensures) in
+    let here = J.at_cells _ _ _ _ _ c.in_ok-check_rows.ensures c.in_ok-check_limit.ensures c.in_ok-check_lengths.ensures _ _ c.in_err-check_costs.ensures in
+    J.refused_by _ _ c.from_residual-in_err-check_costs.ensures.1 (J.stops _ _ _ _ _ _ _ from here)
 
--- ---- rule 5: the costs
+pub find_dead_row-requires : goal.find_dead_row-requires
+find_dead_row-requires c = (J.lengths_passed c.args.limit _ c.args.costs.now c.args.mask.now _ c.in_ok-check_lengths.ensures).mask_length
 
-pub has_bad_cost-requires : goal.has_bad_cost-requires
-has_bad_cost-requires c =
-    let lengths_right = J.lengths_are c.args.limit _ c.args.costs.now c.args.mask.now _ (sym c.has_lengths.ensures ∙ c.if-not-has_lengths.false) in
-    lengths_right.costs_length ∙ sym lengths_right.mask_length
+pub returns-in-Some : goal.returns-in-Some
+returns-in-Some c =
+    let from = J.past_costs _ _ _ _ _ c.in_ok-check_rows.ensures c.in_ok-check_limit.ensures c.in_ok-check_lengths.ensures c.in_ok-check_mask.ensures c.in_ok-check_costs.ensures in
+    sym (J.row_dead _ _ _ _ _ from (sym c.in-Some.is ∙ c.find_dead_row.ensures))
 
-pub find_bad_cost-bad_cost-requires : goal.find_bad_cost-bad_cost-requires
-find_bad_cost-bad_cost-requires c =
-    let lengths_right = J.lengths_are c.args.limit _ c.args.costs.now c.args.mask.now _ (sym c.has_lengths.ensures ∙ c.if-not-has_lengths.false) in
-    lengths_right.costs_length ∙ sym lengths_right.mask_length
-
-pub returns-then-has_bad_cost : goal.returns-then-has_bad_cost
-returns-then-has_bad_cost c =
-    let past_1 = J.past_1 _ _ _ _ _ c.if-n-eq0.false in
-    let past_2 = J.past_2 _ _ _ _ _ past_1 c.if-limit-n.false in
-    let lengths_right = J.lengths_are c.args.limit _ c.args.costs.now c.args.mask.now _ (sym c.has_lengths.ensures ∙ c.if-not-has_lengths.false) in
-    let past_3 = J.past_3 _ _ _ _ _ past_2 (sym c.has_lengths.ensures ∙ c.if-not-has_lengths.false) in
-    let past_4 = J.past_4 _ _ _ _ _ past_3 (J.asked _ c.has_bad_mask.ensures lengths_right.mask_length ∙ c.if-has_bad_mask.false) in
-    let size = lengths_right.mask_length in
-    sym (J.rule_5 _ _ _ _ _ past_4 (J.asked _ c.has_bad_cost.ensures size ∙ c.if-has_bad_cost.true) (J.place _ c.find_bad_cost-bad_cost.ensures size))
-
--- ---- the rows
-
-pub find_dead_row-dead-requires : goal.find_dead_row-dead-requires
-find_dead_row-dead-requires c =
-    let lengths_right = J.lengths_are c.args.limit _ c.args.costs.now c.args.mask.now _ (sym c.has_lengths.ensures ∙ c.if-not-has_lengths.false) in
-    lengths_right.mask_length
-
-pub returns-then-dead-n : goal.returns-then-dead-n
-returns-then-dead-n c =
-    let past_1 = J.past_1 _ _ _ _ _ c.if-n-eq0.false in
-    let past_2 = J.past_2 _ _ _ _ _ past_1 c.if-limit-n.false in
-    let lengths_right = J.lengths_are c.args.limit _ c.args.costs.now c.args.mask.now _ (sym c.has_lengths.ensures ∙ c.if-not-has_lengths.false) in
-    let past_3 = J.past_3 _ _ _ _ _ past_2 (sym c.has_lengths.ensures ∙ c.if-not-has_lengths.false) in
-    let past_4 = J.past_4 _ _ _ _ _ past_3 (J.asked _ c.has_bad_mask.ensures lengths_right.mask_length ∙ c.if-has_bad_mask.false) in
-    let past_5 = J.past_5 _ _ _ _ _ past_4 (J.asked _ c.has_bad_cost.ensures lengths_right.mask_length ∙ c.if-has_bad_cost.false) in
-    sym (J.row_dead _ _ _ _ _ past_5 c.find_dead_row-dead.ensures c.if-dead-n.true)
-
-pub returns : goal.returns
-returns c =
-    let past_1 = J.past_1 _ _ _ _ _ c.if-n-eq0.false in
-    let past_2 = J.past_2 _ _ _ _ _ past_1 c.if-limit-n.false in
-    let lengths_right = J.lengths_are c.args.limit _ c.args.costs.now c.args.mask.now _ (sym c.has_lengths.ensures ∙ c.if-not-has_lengths.false) in
-    let past_3 = J.past_3 _ _ _ _ _ past_2 (sym c.has_lengths.ensures ∙ c.if-not-has_lengths.false) in
-    let past_4 = J.past_4 _ _ _ _ _ past_3 (J.asked _ c.has_bad_mask.ensures lengths_right.mask_length ∙ c.if-has_bad_mask.false) in
-    let past_5 = J.past_5 _ _ _ _ _ past_4 (J.asked _ c.has_bad_cost.ensures lengths_right.mask_length ∙ c.if-has_bad_cost.false) in
-    sym (J.rows_alive _ _ _ _ _ past_5 c.find_dead_row-dead.ensures c.if-dead-n.false)
+pub returns-in-None : goal.returns-in-None
+returns-in-None c =
+    let from = J.past_costs _ _ _ _ _ c.in_ok-check_rows.ensures c.in_ok-check_limit.ensures c.in_ok-check_lengths.ensures c.in_ok-check_mask.ensures c.in_ok-check_costs.ensures in
+    sym (J.rows_alive _ _ _ _ _ from (sym c.in-None.is ∙ c.find_dead_row.ensures))

@@ -1,25 +1,22 @@
 -- `events_of` meets its contract.
-use mathlib.Core.Path.{refl}
-use Prim.Native.Nat.{◌+◌}
-use native.Mathlib.Omega.{arith}
+use Rattle.std.proofs.Common.{◌+◌, refl, arith}
 use Rattle.judgement.specs.Numbers.{u16_at, u32_at}
 use Rattle.judgement.specs.Says.{column_area, column_clock}
-use Rattle.said.proofs.SaidLaws.{columns_readable, column_said}
+use Rattle.said.proofs.SaidLaws.{said_refused, columns_readable, column_said}
 use Rattle.said.proofs.events_of.Goals as goal
 
-pub put_u16s-requires : goal.put_u16s-requires
-put_u16s-requires c =
-    rw c.accepted_lines-count.ensures (columns_readable _ c.judge_file-scan.ensures _ (omega arith))
+pub put-requires : goal.put-requires
+put-requires c = columns_readable _ c.in-Ok.ensures _ (omega arith) c.as_slice.ensures
 
-pub put_u32s-requires : goal.put_u32s-requires
-put_u32s-requires c =
-    rw c.accepted_lines-count.ensures (columns_readable _ c.judge_file-scan.ensures _ (omega arith))
+pub put-requires-in-Ok : goal.put-requires-in-Ok
+put-requires-in-Ok c = columns_readable _ c.in-Ok.ensures _ (omega arith) c.as_slice-in-Ok.ensures
 
-pub returns : goal.returns
+pub returns-in-Ok : goal.returns-in-Ok
 unfolding column_area column_clock
-returns c =
-    let agrees = c.judge_file-scan.ensures in
-    let count = c.accepted_lines-count.ensures in (
-      column_said _ agrees column_area (λ file o. u16_at file (o + 1)) _ count (λ d i. refl) _ _ c.put_u16s.ensures,
-      column_said _ agrees column_clock (λ file o. u32_at file (o + 3)) _ count (λ d i. refl) _ _ c.put_u32s.ensures,
-    )
+returns-in-Ok c = (
+  column_said _ c.in-Ok.ensures column_area (λ file o. u16_at file (o + 1)) (λ d i. refl) c.as_slice.ensures _ c.put.ensures,
+  column_said _ c.in-Ok.ensures column_clock (λ file o. u32_at file (o + 3)) (λ d i. refl) c.as_slice-in-Ok.ensures _ c.put-in-Ok.ensures,
+)
+
+pub returns-in_default : goal.returns-in_default
+returns-in_default c = (said_refused _ _ _ c.in_default.ensures, said_refused _ _ _ c.in_default.ensures)

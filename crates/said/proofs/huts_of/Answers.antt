@@ -1,18 +1,16 @@
 -- `huts_of` meets its contract.
-use mathlib.Core.Path.{refl}
-use Prim.Native.Nat.{◌+◌}
-use native.Mathlib.Omega.{arith}
+use Rattle.std.proofs.Common.{◌+◌, refl, arith}
 use Rattle.judgement.specs.Numbers.{u16_at}
 use Rattle.judgement.specs.Says.{hut_of}
-use Rattle.said.proofs.SaidLaws.{rows_readable, row_said}
+use Rattle.said.proofs.SaidLaws.{said_refused, rows_readable, row_said}
 use Rattle.said.proofs.huts_of.Goals as goal
 
-pub put_u16s-requires : goal.put_u16s-requires
-put_u16s-requires c =
-    rw c.accepted_lines.ensures (rows_readable _ c.judge_file-scan.ensures _ (omega arith))
+pub put-requires : goal.put-requires
+put-requires c = rows_readable _ c.in-Ok.ensures _ (omega arith) c.as_slice.ensures
 
-pub returns : goal.returns
+pub returns-in-Ok : goal.returns-in-Ok
 unfolding hut_of
-returns c =
-    let agrees = c.judge_file-scan.ensures in
-    row_said _ agrees hut_of (λ file o. u16_at file (o + 1)) _ c.accepted_lines.ensures (λ d i. refl) _ _ c.put_u16s.ensures
+returns-in-Ok c = row_said _ c.in-Ok.ensures hut_of (λ file o. u16_at file (o + 1)) (λ d i. refl) c.as_slice.ensures _ c.put.ensures
+
+pub returns-in_default : goal.returns-in_default
+returns-in_default c = said_refused _ _ _ c.in_default.ensures

@@ -3,25 +3,22 @@ use mathlib.Core.Path.{◌≡◌}
 use Prim.Native.Nat.{◌*◌}
 use native.Mathlib.Omega.{arith}
 use Rattle.text.specs.Ascii.{ascii}
-use Rattle.text.proofs.PutLaws.{Holds, holds_begin, holds_then}
+use Rattle.text.proofs.PutLaws.{◌▸◌, puts_none}
 use Rattle.entries.specs.Lines.{each_line}
+use Rattle.entries.proofs.ListLaws.{puts_line}
 use Rattle.spares.specs.Spares.{every_pair}
-use Rattle.entries.proofs.ListLaws.{holds_line}
 use Rattle.spares.proofs.put_every_pair.Goals as goal
 
 pub loop-place-init : goal.loop-place-init
 unfolding each_line
-loop-place-init c = (omega arith, holds_begin (record { held = c.put-at.ensures }))
+loop-place-init c = puts_none _
 
 pub loop-place-preserved : goal.loop-place-preserved
-loop-place-preserved c =
-    let loop = c.loop-place in
-    (omega arith, holds_line _ loop.place loop.invariant.1 c.put_cell-at.ensures)
+loop-place-preserved c = puts_line _ c.loop-place.place c.loop-place.invariant c.put_cell.ensures
 
 pub returns : goal.returns
 unfolding every_pair ascii
 returns c =
-    let given = c.args in
-    let all : c.loop-place.place ≡ given.n * given.n = omega arith in
-    let head : Holds _ _ _ _ _ = record { held = c.put-at.ensures } in
-    rw (← all) (holds_then head c.loop-place.invariant.1).held
+    let n = c.args.solved.now.n in
+    let all : c.loop-place.place ≡ n * n = omega arith in
+    rw all at (c.put.ensures ▸ c.loop-place.invariant)

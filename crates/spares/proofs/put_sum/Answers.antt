@@ -1,16 +1,15 @@
 -- `put_sum` meets its contract, piece after piece.
+use borrow.Author.Rules.{rules}
 use mir.Facts.{to_z-of_z}
+use mir.Syntax.{w64}
 use Rattle.text.specs.Ascii.{ascii}
-use Rattle.text.proofs.PutLaws.{Holds, holds_more}
+use Rattle.text.proofs.PutLaws.{◌▸◌}
 use Rattle.spares.specs.Spares.{sum_words}
 use Rattle.spares.proofs.put_sum.Goals as goal
 
 pub returns : goal.returns
 unfolding sum_words ascii
 returns c =
-    let h1 : Holds _ _ _ _ _ = record { held = c.put_signed-after_rows.ensures } in
-    let h2 = holds_more h1 _ c.put-after_plus.ensures in
-    let h3 = holds_more h2 _ c.put_signed-after_events.ensures in
-    let h4 = holds_more h3 _ c.put-after_is.ensures in
-    let given = c.ranges in
-    rw (to_z-of_z given.total, to_z-of_z given.row_prices, to_z-of_z given.event_prices) at (holds_more h4 _ c.put_signed.ensures).held
+    let s = c.args.sums in
+    rw (to_z-of_z {w = w64} {z = s.difference} (search rules), to_z-of_z {w = w64} {z = s.row_price} (search rules), to_z-of_z {w = w64} {z = s.event_price} (search rules))
+    at (c.put_number.ensures ▸ c.put.ensures ▸ c.put_number-2.ensures ▸ c.put-2.ensures ▸ c.put_number-3.ensures)

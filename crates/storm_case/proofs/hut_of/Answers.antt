@@ -1,29 +1,27 @@
 -- `hut_of` reads the hut of the row's fragment where the file is accepted and has the row.
-use native.Mathlib.Omega.{arith}
-use borrow.Author.Rules.{rules}
-use Rattle.storm_case.proofs.CaseLaws.{hut_more, hut_refused, hut_past, hut_there, fragment_inside}
+use Rattle.std.proofs.Common.{◌+◌, ◌∙◌, ap, arith}
+use Rattle.judgement.specs.Numbers.{u16_at}
+use Rattle.storm_case.proofs.CaseLaws.{hut_refused, hut_past, hut_there, fragment_inside}
 use Rattle.storm_case.proofs.hut_of.Goals as goal
 
-pub overflow_add-fragments : goal.overflow_add-fragments
-overflow_add-fragments c =
-    let inside = fragment_inside _ _ c.judge_file-scan.ensures c.in-Accepted.is c.if-row-n.true in
-    search rules
+pub returns-in_default : goal.returns-in_default
+returns-in_default c = hut_refused _ _ c.in_default.ensures
 
-pub u16_at-requires : goal.u16_at-requires
-u16_at-requires c =
-    let inside = fragment_inside _ _ c.judge_file-scan.ensures c.in-Accepted.is c.if-row-n.true in
-    omega arith
+pub returns-in_err-fragment : goal.returns-in_err-fragment
+returns-in_err-fragment c =
+    rw c.from_residual.ensures (hut_past _ _ c.in-Ok.ensures (rw c.as_slice.ensures at c.in_err-fragment.ensures.lookup.3))
 
-pub returns-then-row-n : goal.returns-then-row-n
-returns-then-row-n c =
-    hut_there _ _ c.judge_file-scan.ensures c.in-Accepted.is c.if-row-n.true c.u16_at.ensures
+pub overflow_add-fragment : goal.overflow_add-fragment
+overflow_add-fragment c =
+    let look = rw c.as_slice.ensures at c.in_ok-fragment.ensures.lookup.3 in
+    omega (arith, fragment_inside _ _ c.in-Ok.ensures look.0, look.1 0)
 
-pub returns-in-More : goal.returns-in-More
-returns-in-More c = hut_more _ _ c.judge_file-scan.ensures c.in-More.is
+pub read-requires : goal.read-requires
+read-requires c =
+    let look = rw c.as_slice.ensures at c.in_ok-fragment.ensures.lookup.3 in
+    omega (arith, fragment_inside _ _ c.in-Ok.ensures look.0, look.1 0)
 
-pub returns-in-Refused : goal.returns-in-Refused
-returns-in-Refused c = hut_refused _ _ c.judge_file-scan.ensures c.in-Refused.is
-
-pub returns-else-row-n : goal.returns-else-row-n
-returns-else-row-n c =
-    hut_past _ _ c.judge_file-scan.ensures c.in-Accepted.is c.if-row-n.false
+pub returns : goal.returns
+returns c =
+    let look = rw c.as_slice.ensures at c.in_ok-fragment.ensures.lookup.3 in
+    hut_there _ _ c.in-Ok.ensures look.0 (c.read.ensures ∙ ap (λ o. u16_at c.args.file.now (o + 1)) (look.1 0))

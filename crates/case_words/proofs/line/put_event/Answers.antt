@@ -1,13 +1,9 @@
 -- `put_event` meets its contract, piece after piece.
 use Rattle.text.specs.Ascii.{ascii}
-use Rattle.text.proofs.PutLaws.{Holds, holds_more}
+use Rattle.text.proofs.PutLaws.{◌▸◌}
 use Rattle.case_words.specs.Case.{event_line}
 use Rattle.case_words.proofs.line.put_event.Goals as goal
 
 pub returns : goal.returns
 unfolding event_line ascii
-returns c =
-    let h1 : Holds _ _ _ _ _ = record { held = c.put_decimal_right-after_event.ensures } in
-    let h2 = holds_more h1 _ c.put_decimal_right-after_area.ensures in
-    let h3 = holds_more h2 _ c.put_decimal_right-after_clock.ensures in
-    (holds_more h3 _ c.put.ensures).held
+returns c = c.put_right.ensures ▸ c.put_right-2.ensures ▸ c.put_right-3.ensures ▸ c.put.ensures

@@ -1,30 +1,22 @@
 -- `put_events` meets its contract: after so many events their lines are put.
-use mathlib.Core.Path.{◌≡◌, ◌∙◌}
+use mathlib.Core.Path.{◌≡◌}
 use native.Mathlib.Omega.{arith}
 use Rattle.text.specs.Ascii.{ascii}
-use Rattle.text.proofs.PutLaws.{Holds, holds_begin, holds_then, holds_long}
+use Rattle.text.proofs.PutLaws.{◌▸◌, puts_none}
 use Rattle.entries.specs.Lines.{each_line}
-use Rattle.entries.proofs.ListLaws.{holds_line}
+use Rattle.entries.proofs.ListLaws.{puts_line}
 use Rattle.case_words.specs.Case.{event_lines}
 use Rattle.case_words.proofs.table.put_events.Goals as goal
 
 pub loop-event-init : goal.loop-event-init
 unfolding each_line
-loop-event-init c = (omega arith, holds_begin (record { held = c.put-at.ensures }))
+loop-event-init c = puts_none _
 
 pub loop-event-preserved : goal.loop-event-preserved
-loop-event-preserved c =
-    let loop = c.loop-event in
-    (omega arith, holds_line _ loop.event loop.invariant.1 c.put_event-at.ensures)
-
-pub shape_of-out : goal.shape_of-out
-shape_of-out c =
-    let head : Holds _ _ _ _ _ = record { held = c.put-at.ensures } in
-    holds_long c.loop-event.invariant.1 ∙ holds_long head
+loop-event-preserved c = puts_line _ c.loop-event.event c.loop-event.invariant c.put_event.ensures
 
 pub returns : goal.returns
 unfolding event_lines ascii
 returns c =
     let all : c.loop-event.event ≡ c.args.n = omega arith in
-    let head : Holds _ _ _ _ _ = record { held = c.put-at.ensures } in
-    rw (← all) (holds_then head c.loop-event.invariant.1).held
+    rw all at (c.put.ensures ▸ c.loop-event.invariant)

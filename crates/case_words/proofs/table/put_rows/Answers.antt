@@ -1,30 +1,22 @@
 -- `put_rows` meets its contract: after so many rows their lines are put.
-use mathlib.Core.Path.{◌≡◌, ◌∙◌}
+use mathlib.Core.Path.{◌≡◌}
 use native.Mathlib.Omega.{arith}
 use Rattle.text.specs.Ascii.{ascii}
-use Rattle.text.proofs.PutLaws.{Holds, holds_begin, holds_then, holds_long}
+use Rattle.text.proofs.PutLaws.{◌▸◌, puts_none}
 use Rattle.entries.specs.Lines.{each_line}
-use Rattle.entries.proofs.ListLaws.{holds_line}
+use Rattle.entries.proofs.ListLaws.{puts_line}
 use Rattle.case_words.specs.Case.{row_lines}
 use Rattle.case_words.proofs.table.put_rows.Goals as goal
 
 pub loop-row-init : goal.loop-row-init
 unfolding each_line
-loop-row-init c = (omega arith, holds_begin (record { held = c.put-at.ensures }))
+loop-row-init c = puts_none _
 
 pub loop-row-preserved : goal.loop-row-preserved
-loop-row-preserved c =
-    let loop = c.loop-row in
-    (omega arith, holds_line _ loop.row loop.invariant.1 c.put_row-at.ensures)
-
-pub shape_of-out : goal.shape_of-out
-shape_of-out c =
-    let head : Holds _ _ _ _ _ = record { held = c.put-at.ensures } in
-    holds_long c.loop-row.invariant.1 ∙ holds_long head
+loop-row-preserved c = puts_line _ c.loop-row.row c.loop-row.invariant c.put_row.ensures
 
 pub returns : goal.returns
 unfolding row_lines ascii
 returns c =
     let all : c.loop-row.row ≡ c.args.n = omega arith in
-    let head : Holds _ _ _ _ _ = record { held = c.put-at.ensures } in
-    rw (← all) (holds_then head c.loop-row.invariant.1).held
+    rw all at (c.put.ensures ▸ c.loop-row.invariant)

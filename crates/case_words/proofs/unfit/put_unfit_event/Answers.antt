@@ -1,17 +1,13 @@
 -- `put_unfit_event` meets its contract, by whether it fits.
 use Rattle.text.specs.Ascii.{ascii}
-use Rattle.text.proofs.PutLaws.{Holds, holds_more}
+use Rattle.text.proofs.PutLaws.{◌▸◌, puts_none}
 use Rattle.case_words.specs.Unfit.{unfit_event}
 use Rattle.case_words.proofs.unfit.put_unfit_event.Goals as goal
 
 pub returns-then-fits : goal.returns-then-fits
-unfolding unfit_event ascii
-returns-then-fits c =
-    rw c.if-fits.true c.put.ensures
+unfolding unfit_event
+returns-then-fits c = rw c.if-fits.true (puts_none _)
 
 pub returns : goal.returns
 unfolding unfit_event ascii
-returns c =
-    let h1 : Holds _ _ _ _ _ = record { held = c.put-after_word.ensures } in
-    let h2 = holds_more h1 _ c.put_decimal-after_event.ensures in
-    rw c.if-fits.false (holds_more h2 _ c.put-2.ensures).held
+returns c = rw c.if-fits.false (c.put.ensures ▸ c.put_number.ensures ▸ c.put-2.ensures)

@@ -1,30 +1,26 @@
 -- `put_unfit_events` meets its contract: after so many events their lines are put.
-use mathlib.Core.Path.{◌≡◌, ◌∙◌}
+use mathlib.Core.Path.{◌≡◌}
 use native.Mathlib.Omega.{arith}
-use Rattle.text.specs.Ascii.{ascii}
-use Rattle.text.proofs.PutLaws.{Holds, holds_begin, holds_then, holds_long}
+use Rattle.text.proofs.PutLaws.{puts_none}
 use Rattle.entries.specs.Lines.{each_line}
-use Rattle.entries.proofs.ListLaws.{holds_line}
-use Rattle.case_words.specs.Unfit.{unfit_events}
+use Rattle.entries.proofs.ListLaws.{puts_line}
+use Rattle.case_words.specs.Unfit.{may_pair, event_fits, unfit_events}
+use Rattle.case_words.proofs.Anys.{any_listed}
 use Rattle.case_words.proofs.unfit.put_unfit_events.Goals as goal
 
 pub loop-event-init : goal.loop-event-init
 unfolding each_line
-loop-event-init c = (omega arith, holds_begin (record { held = c.put-at.ensures }))
+loop-event-init c = puts_none _
 
 pub loop-event-preserved : goal.loop-event-preserved
+unfolding event_fits
 loop-event-preserved c =
-    let loop = c.loop-event in
-    (omega arith, holds_line _ loop.event loop.invariant.1 (rw c.event_fits-fits.ensures at c.put_unfit_event-at.ensures))
-
-pub shape_of-out : goal.shape_of-out
-shape_of-out c =
-    let head : Holds _ _ _ _ _ = record { held = c.put-at.ensures } in
-    holds_long c.loop-event.invariant.1 ∙ holds_long head
+    let s = c.args.solved.now in
+    let j = c.loop-event.event in
+    puts_line _ j c.loop-event.invariant (rw (c.event_fits.ensures, any_listed (λ i. may_pair s.n s.mask i j) s.n) at c.put_unfit_event.ensures)
 
 pub returns : goal.returns
-unfolding unfit_events ascii
+unfolding unfit_events
 returns c =
-    let all : c.loop-event.event ≡ c.args.n = omega arith in
-    let head : Holds _ _ _ _ _ = record { held = c.put-at.ensures } in
-    rw all at (holds_then head c.loop-event.invariant.1).held
+    let all : c.loop-event.event ≡ c.args.solved.now.n = omega arith in
+    rw all at (c.loop-event.invariant)

@@ -1,34 +1,13 @@
--- `marks::find_first_mark_in_row` meets its contract: the loop has missed the mark in each column that it passed.
-use Prim.Native.Nat.{ℕ, ◌+◌, ◌*◌, ◌<◌}
-use native.Mathlib.Omega.{arith}
-use borrow.Author.Tests.{eq-eqb, ne_eqb}
-use Rattle.lines.proofs.Loops.{missed_none, missed_more, missed_hit, missed_all}
-use Rattle.lines.proofs.Squares.{place_lt}
+-- `marks::find_first_mark_in_row` meets its contract: the search along the row's cells.
+use Rattle.std.proofs.Common.{◌+◌, ◌*◌, eqb, slice_range, rules, tests, ◌∙◌}
+use Rattle.std.proofs.lemmas.Iterator.{YieldsList-from_slice}
+use Rattle.std.proofs.lemmas.Iterator.Search.{position_from_yields_List}
+use Rattle.lines.proofs.Rows.{row_found}
 use Rattle.ground.proofs.marks.find_first_mark_in_row.Goals as goal
 
-pub overflow_mul-start : goal.overflow_mul-start
-overflow_mul-start c =
-    let place : (j : ℕ) → j < c.args.n → c.args.row * c.args.n + j < c.args.n * c.args.n = λ j h. place_lt c.args.n c.args.row j c.requires.1 h in
-    omega (arith, place c.args.row c.requires.1)
-
-pub loop-column-init : goal.loop-column-init
-loop-column-init c = missed_none
-
-pub overflow_add-start : goal.overflow_add-start
-overflow_add-start c =
-    let place : (j : ℕ) → j < c.args.n → c.args.row * c.args.n + j < c.args.n * c.args.n = λ j h. place_lt c.args.n c.args.row j c.requires.1 h in
-    omega (arith, place _ c.loop-column-test.true)
-
-pub bounds-marks-start : goal.bounds-marks-start
-bounds-marks-start c =
-    let place : (j : ℕ) → j < c.args.n → c.args.row * c.args.n + j < c.args.n * c.args.n = λ j h. place_lt c.args.n c.args.row j c.requires.1 h in
-    omega (arith, place _ c.loop-column-test.true)
-
-pub returns-then-marks-start : goal.returns-then-marks-start
-returns-then-marks-start c = missed_hit _ c.loop-column-test.true (eq-eqb _ _ c.if-marks-start.true) c.loop-column.invariant
-
-pub loop-column-preserved : goal.loop-column-preserved
-loop-column-preserved c = missed_more (ne_eqb _ _ c.if-marks-start.false) c.loop-column.invariant
-
 pub returns : goal.returns
-returns c = missed_all _ c.loop-column-test.false c.loop-column.invariant
+returns c =
+    let a = c.args in
+    let row = slice_range a.marks.now (a.row * a.n) (a.row * a.n + a.n) in
+    position_from_yields_List (λ m. eqb m a.mark) _ _ _ c.position.ensures.ran (YieldsList-from_slice row cc) (λ x b q k. search (rules, tests))
+    ∙ row_found 0 a.marks.now a.n a.row c.requires.0 c.requires.1 (λ m. eqb m a.mark)

@@ -13,11 +13,6 @@ use Rattle.ground.proofs.prices.adjust_prices.Goals as goal
 
 -- ---- what each call asks
 
-pub overflow_sub-change : goal.overflow_sub-change
-overflow_sub-change c =
-    let turned : pos 0 -ℤ to_z w64 (of_z w64 c.args.change) ≡ neg_ℤ c.args.change = ap (λ z. pos 0 -ℤ z) (to_z-of_z c.ranges.change) ∙ +ℤ_idl _ in
-    rw turned c.requires.back
-
 pub shift_prices-requires : goal.shift_prices-requires
 shift_prices-requires c =
     let turned : pos 0 -ℤ to_z w64 (of_z w64 c.args.change) ≡ neg_ℤ c.args.change = ap (λ z. pos 0 -ℤ z) (to_z-of_z c.ranges.change) ∙ +ℤ_idl _ in

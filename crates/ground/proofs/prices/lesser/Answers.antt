@@ -1,16 +1,27 @@
 -- `prices::lesser` meets its contract, by the cases of `lesser_of`.
+use mathlib.Core.Path.{◌≡◌, refl}
+use mathlib.Core.Bool.{Bool, true, false, cond}
+use lib.IntN.{ℤ}
+use mir.Syntax.{w64}
+use mir.Val.{SFits}
+use mir.Facts.{to_z-of_z}
 use borrow.Author.Rules.{rules}
+use Rattle.std.specs.Prelude.{Some}
 use Rattle.ground.specs.Least.{lesser_of}
 use Rattle.ground.proofs.prices.lesser.Goals as goal
 
-pub returns-in-Nothing : goal.returns-in-Nothing
-unfolding lesser_of
-returns-in-Nothing c = search rules
+either : (b : Bool) (x y : ℤ) → Some (cond b x y) ≡ cond b (Some x) (Some y)
+either true x y = refl
+either false x y = refl
 
-pub returns-then-value-best : goal.returns-then-value-best
+pub returns-in-Some : goal.returns-in-Some
 unfolding lesser_of
-returns-then-value-best c = search rules
+returns-in-Some c =
+    let f : SFits w64 c.in-Some.best = search rules in
+    let m : SFits w64 c.min.result = search rules in
+    let e = rw (to_z-of_z f, to_z-of_z c.ranges.value) at c.min.ensures.value in
+    rw (c.in-Some.is, to_z-of_z m, e) (either _ _ _)
 
-pub returns-else-value-best : goal.returns-else-value-best
+pub returns-in-None : goal.returns-in-None
 unfolding lesser_of
-returns-else-value-best c = search rules
+returns-in-None c = search rules

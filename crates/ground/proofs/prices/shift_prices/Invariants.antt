@@ -11,8 +11,5 @@ use Rattle.ground.proofs.prices.shift_prices.Given as goal
 abbrev pub moved : ℕ → ℤ → ℕ → ℤ → ℤ
 moved lines change i p = cond (has lines i) (p +ℤ change) p
 
-abbrev pub invariant-loop-left : goal.invariant-loop-left
-invariant-loop-left l = Walk (length l.initial.prices) l.lines (Passed (pos 0) (moved l.lines l.change) l.initial.prices l.prices) l.left
-
-abbrev pub decreases-loop-left : goal.decreases-loop-left
-decreases-loop-left l = l.left
+abbrev pub invariant-loop-line : goal.invariant-loop-line
+invariant-loop-line l = Walk (length l.initial.prices) l.lines (Passed (pos 0) (moved l.lines l.change) l.initial.prices l.prices) l.line-iterator.left

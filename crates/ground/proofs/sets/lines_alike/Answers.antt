@@ -9,6 +9,3 @@ unfolding all
 returns-then-covered c =
     let a = c.args in
     rw c.if-covered.true (ap (bit_and a.lines) c.all_lines.ensures ∙ and_mask a.lines a.n)
-
-pub returns-else-covered : goal.returns-else-covered
-returns-else-covered c = rw c.if-covered.false c.uncovered_lines.ensures

@@ -2,11 +2,8 @@
 use mathlib.Core.Path.{ap}
 use Prim.Native.Nat.{◌%◌}
 use Rattle.keyed.specs.Keys.{row_of}
-use Rattle.keyed.proofs.KeyBits.{unsigned_fits, unsigned_is}
+use Rattle.keyed.proofs.KeyBits.{unsigned_is}
 use Rattle.keyed.proofs.keys.row_of.Goals as goal
-
-pub overflow_cast-result : goal.overflow_cast-result
-overflow_cast-result c = unsigned_fits c.args.key c.ranges.key c.requires
 
 pub returns : goal.returns
 unfolding row_of

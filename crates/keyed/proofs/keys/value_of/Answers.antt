@@ -5,14 +5,8 @@ use mir.Syntax.{w64}
 use mir.Val.{to_z}
 use mir.Facts.{to_z_pos}
 use Rattle.keyed.specs.Keys.{value_of}
-use Rattle.keyed.proofs.KeyBits.{unsigned_fits, unsigned_is, value_fits, value_small}
+use Rattle.keyed.proofs.KeyBits.{unsigned_is, value_small}
 use Rattle.keyed.proofs.keys.value_of.Goals as goal
-
-pub overflow_cast-result : goal.overflow_cast-result
-overflow_cast-result c = unsigned_fits c.args.key c.ranges.key c.requires
-
-pub overflow_cast-result-2 : goal.overflow_cast-result-2
-overflow_cast-result-2 c = value_fits c.args.key c.ranges.key c.requires
 
 pub returns : goal.returns
 unfolding value_of

@@ -13,8 +13,7 @@ use Rattle.matrices.proofs.coverage.find_uncovered_cell_column_row_order.Given a
 abbrev pub Kept : ℕ → List ℕ → List ℤ → ℕ → ℕ → ℕ → Type 0
 Kept n mask working rows columns = Missed (λ j. ltb (zero_in_column n (allows n mask) working rows columns j) n)
 
-abbrev pub invariant-loop-left : goal.invariant-loop-left
-invariant-loop-left l = Walk l.n (rest l.n l.columns) (Kept l.n l.mask l.working l.rows l.columns) l.left
-
-abbrev pub decreases-loop-left : goal.decreases-loop-left
-decreases-loop-left l = l.left
+abbrev pub invariant-loop-column : goal.invariant-loop-column
+invariant-loop-column l =
+    let m = l.matrix in
+    Walk m.n (rest m.n l.columns) (Kept m.n m.mask.now l.working l.rows l.columns) l.column-iterator.left

@@ -13,8 +13,5 @@ use Rattle.matrices.proofs.coverage.find_zero_in_column.Given as goal
 abbrev pub Kept : ℕ → List ℕ → List ℤ → ℕ → ℕ → ℕ → Type 0
 Kept n mask working rows column = Missed (λ i. not (has rows i) && zero_at n (allows n mask) working i column)
 
-abbrev pub invariant-loop-left : goal.invariant-loop-left
-invariant-loop-left l = Walk l.n (rest l.n l.rows) (Kept l.n l.mask l.working l.rows l.column) l.left
-
-abbrev pub decreases-loop-left : goal.decreases-loop-left
-decreases-loop-left l = l.left
+abbrev pub invariant-loop-row : goal.invariant-loop-row
+invariant-loop-row l = Walk l.n (rest l.n l.rows) (Kept l.n l.mask l.working l.rows l.column) l.row-iterator.left

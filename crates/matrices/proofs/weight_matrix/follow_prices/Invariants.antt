@@ -1,6 +1,6 @@
 -- `weight_matrix::follow_prices` meets its contract: the rows so far are done (`RowsPassed`).
 use mathlib.Core.Bool.{cond}
-use Prim.Native.Nat.{◌-◌, ◌≤◌}
+use Prim.Native.Nat.{◌≤◌}
 use lib.IntN.{pos}
 use Rattle.lines.specs.Sets.{has}
 use Rattle.lines.proofs.Rows.{RowsPassed}
@@ -10,8 +10,6 @@ use Rattle.matrices.proofs.weight_matrix.follow_prices.Given as goal
 
 abbrev pub invariant-loop-row : goal.invariant-loop-row
 invariant-loop-row l =
-    (l.row ≤ l.n)
-    × RowsPassed (pos 0) l.n (λ i j w. cond (allows l.n l.mask i j) (follow l.change (has l.rows i) (has l.columns j) w) w) l.initial.working l.working l.row
-
-abbrev pub decreases-loop-row : goal.decreases-loop-row
-decreases-loop-row l = l.n - l.row
+    let m = l.matrix in
+    (l.row ≤ m.n)
+    × RowsPassed (pos 0) m.n (λ i j w. cond (allows m.n m.mask.now i j) (follow l.change (has l.rows i) (has l.columns j) w) w) l.initial.working l.working l.row

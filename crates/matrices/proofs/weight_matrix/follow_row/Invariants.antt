@@ -17,9 +17,6 @@ abbrev pub Kept : ℕ → List ℕ → ℕ → ℕ → Bool → ℤ → List ℤ
 Kept n mask columns row covered change before after i =
     RowPassed (pos 0) n row (λ j w. cond (allows n mask row j) (follow change covered (has columns j) w) w) before after i
 
-abbrev pub invariant-loop-left : goal.invariant-loop-left
-invariant-loop-left l =
-    (l.row * l.n + l.n ≤ l.n * l.n) × Walk l.n (Alike l.n l.columns l.covered) (Kept l.n l.mask l.columns l.row l.covered l.change l.initial.working l.working) l.left
-
-abbrev pub decreases-loop-left : goal.decreases-loop-left
-decreases-loop-left l = l.left
+abbrev pub invariant-loop-column : goal.invariant-loop-column
+invariant-loop-column l =
+    (l.row * l.n + l.n ≤ l.n * l.n) × Walk l.n (Alike l.n l.columns l.covered) (Kept l.n l.mask l.columns l.row l.covered l.change l.initial.working l.working) l.column-iterator.left

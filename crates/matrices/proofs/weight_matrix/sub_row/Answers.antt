@@ -1,6 +1,5 @@
 -- `weight_matrix::sub_row` meets its contract: the row's columns so far are done (`RowPassed`).
 use borrow.Author.Rules.{rules}
-use mathlib.Core.Path.{◌∙◌}
 use native.Mathlib.Omega.{arith}
 use mir.Syntax.{w32}
 use mir.Val.{SFits}
@@ -9,7 +8,7 @@ use Rattle.lines.proofs.Rows.{row_none, row_store, row_all}
 use Rattle.steps.specs.Lent.{cost_at}
 use Rattle.lines.proofs.Bounds.{row_end}
 use Rattle.steps.proofs.Masks.{allows_yes, allows_no}
-use Rattle.ground.proofs.Wide.{wide_fits, excess_fits, excess_back}
+use Rattle.ground.proofs.Wide.{excess_fits, excess_back}
 use Rattle.matrices.proofs.weight_matrix.sub_row.Goals as goal
 use Rattle.matrices.proofs.weight_matrix.sub_row.Goals.{then-mask-place-eq1, else-mask-place-eq1}
 
@@ -19,31 +18,28 @@ overflow_mul-start c = let f = row_end _ _ c.requires.in_row.below in omega arit
 pub loop-column-init : goal.loop-column-init
 loop-column-init c = (row_end _ _ c.requires.in_row.below, search rules, row_none _ _ _ _ _ c.requires.in_row.below)
 
-pub overflow_cast-working : goal.overflow_cast-working
-overflow_cast-working c = search (wide_fits, rules)
-
 pub overflow_sub-working : goal.overflow_sub-working
 unfolding cost_at
 overflow_sub-working c =
-    let a = c.args in
-    let x = cost_at a.n a.costs.now a.row c.loop-column.column in
+    let m = c.args.matrix in
+    let x = cost_at m.n m.costs.now c.args.row c.loop-column.column in
     let f : SFits w32 x = search rules in
-    excess_fits x a.price f.sfits c.requires.small
+    rw c.from.ensures (excess_fits x c.args.price f.sfits c.requires.small)
 
 pub loop-column-preserved : goal.loop-column-preserved
 unfolding cost_at
 loop-column-preserved c =
-    let a = c.args in
+    let m = c.args.matrix in
     let l = c.loop-column in
-    let x = cost_at a.n a.costs.now a.row l.column in
-    let ok = allows_yes a.n a.mask.now a.row l.column (omega arith) in
-    let no_ok = allows_no a.n a.mask.now a.row l.column (omega arith) in (
+    let x = cost_at m.n m.costs.now c.args.row l.column in
+    let ok = allows_yes m.n m.mask.now c.args.row l.column (omega arith) in
+    let no_ok = allows_no m.n m.mask.now c.args.row l.column (omega arith) in (
       search rules,
       search rules,
       elim c.if-mask-place-eq1.branch [
         | then-mask-place-eq1 w ↦ let f : SFits w32 x = search rules in
             rw w.working-is (row_store _ _ _ _ _ _ _ _ (omega arith) (omega arith)
-            (excess_back x a.price f.sfits c.requires.small ∙ rw (ok w.if-mask-place-eq1.true)) l.invariant.2)
+            (rw (w.from.ensures, ok w.if-mask-place-eq1.true) (excess_back x c.args.price f.sfits c.requires.small)) l.invariant.2)
         | else-mask-place-eq1 w ↦ rw w.working-is (row_store _ _ _ _ _ _ _ _ (omega arith) (omega arith) (rw (no_ok w.if-mask-place-eq1.false)) l.invariant.2)
       ],
     )

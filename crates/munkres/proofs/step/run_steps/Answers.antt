@@ -3,18 +3,18 @@ use mathlib.Core.Path.{sym, ◌∙◌}
 use Rattle.ground.proofs.Arms.{coming_here, coming_next, coming_falls, came}
 use Rattle.munkres.proofs.step.run_steps.Goals as goal
 
-pub loop-state-init : goal.loop-state-init
-loop-state-init c = coming_here c.requires
+pub steps-init : goal.steps-init
+steps-init c = coming_here c.requires
 
-pub returns-then-is_over : goal.returns-then-is_over
-returns-then-is_over c = came c.loop-state.invariant (sym c.is_over.ensures ∙ c.if-is_over.true)
+pub returns : goal.returns
+returns c = came c.steps.invariant (sym c.is_over.ensures ∙ c.steps-test.false)
 
 pub step-state-requires : goal.step-state-requires
-step-state-requires c = c.loop-state.invariant.good
+step-state-requires c = c.steps.invariant.good
 
-pub loop-state-smaller : goal.loop-state-smaller
-loop-state-smaller c =
-    coming_falls c.step-state.ensures c.loop-state.invariant (sym c.is_over.ensures ∙ c.if-is_over.false)
+pub steps-smaller : goal.steps-smaller
+steps-smaller c =
+    coming_falls c.step-state.ensures c.steps.invariant (sym c.is_over.ensures ∙ c.steps-test.true)
 
-pub loop-state-preserved : goal.loop-state-preserved
-loop-state-preserved c = coming_next c.step-state.ensures c.loop-state.invariant
+pub steps-preserved : goal.steps-preserved
+steps-preserved c = coming_next c.step-state.ensures c.steps.invariant

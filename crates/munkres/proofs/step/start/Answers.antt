@@ -2,6 +2,7 @@
 use mathlib.Core.Path.{ap, ◌∙◌}
 use lib.IntN.{pos}
 use Rattle.lines.specs.Square.{table, square}
+use Rattle.lines.proofs.Squares.{table_same}
 use Rattle.munkres.proofs.StarLaws.{start_made}
 use Rattle.munkres.proofs.step.start.Goals as goal
 
@@ -11,7 +12,7 @@ step_2-requires c =
     let pre = c.requires in
     let grid = pre.grid in (
       record { word = grid.word; mask_square = grid.mask_square; working_square = c.sub_min_of_each_row.auto.working ∙ grid.working_square },
-      c.clear_marks.ensures ∙ ap (table (λ k. 0)) pre.marks_square,
+      c.fill.ensures.after (λ y q. q) ∙ table_same _ _ ∙ ap (table (λ k. 0)) pre.marks_square,
     )
 
 pub returns : goal.returns

@@ -7,21 +7,21 @@ use Rattle.ground.proofs.Wide.{back}
 use Rattle.ground.proofs.Adjusting.{step6_none, step6_spent, step6_adjusts}
 use Rattle.munkres.proofs.step.step_6.Goals as goal
 
-pub returns-in-Nothing : goal.returns-in-Nothing
+pub returns-in_default : goal.returns-in_default
 unfolding lowest
-returns-in-Nothing c =
-    step6_none _ _ _ (view c.args.run) _ _ _ (value_none _ _ _ (sym c.least_uncovered-least.ensures ∙ c.in-Nothing.is)) c.to.ensures
+returns-in_default c =
+    step6_none _ _ _ (view c.args.run) _ _ _ (value_none _ _ _ (sym c.least_uncovered-least.ensures ∙ c.in_default.is)) c.to.ensures
 
 pub returns-then-run-budget : goal.returns-then-run-budget
 unfolding lowest
 returns-then-run-budget c =
-    let found = value_found _ _ _ _ (sym c.least_uncovered-least.ensures ∙ c.in-Value.is) in
+    let found = value_found _ _ _ _ (sym c.least_uncovered-least.ensures ∙ c.in-Some.is) in
     step6_spent _ _ _ (view c.args.run) _ _ _ found.0 c.if-run-budget.true c.to-then-run-budget.ensures
 
 pub follow_prices-requires : goal.follow_prices-requires
 unfolding lowest
 follow_prices-requires c =
-    let found = value_found _ _ _ _ (sym c.least_uncovered-least.ensures ∙ c.in-Value.is) in
+    let found = value_found _ _ _ _ (sym c.least_uncovered-least.ensures ∙ c.in-Some.is) in
     let adjusts = c.requires.adjusts c.if-run-budget.false found.0 in
     let change = back _ _ found.1 adjusts.change in
     let pre = c.requires in
@@ -30,7 +30,7 @@ follow_prices-requires c =
 pub adjust_prices-requires : goal.adjust_prices-requires
 unfolding lowest
 adjust_prices-requires c =
-    let found = value_found _ _ _ _ (sym c.least_uncovered-least.ensures ∙ c.in-Value.is) in
+    let found = value_found _ _ _ _ (sym c.least_uncovered-least.ensures ∙ c.in-Some.is) in
     let adjusts = c.requires.adjusts c.if-run-budget.false found.0 in
     let change = back _ _ found.1 adjusts.change in
     let pre = c.requires in
@@ -43,10 +43,10 @@ adjust_prices-requires c =
       higher = rw change adjusts.higher;
     }
 
-pub returns-else-run-budget : goal.returns-else-run-budget
+pub returns : goal.returns
 unfolding lowest
-returns-else-run-budget c =
-    let found = value_found _ _ _ _ (sym c.least_uncovered-least.ensures ∙ c.in-Value.is) in
+returns c =
+    let found = value_found _ _ _ _ (sym c.least_uncovered-least.ensures ∙ c.in-Some.is) in
     let adjusts = c.requires.adjusts c.if-run-budget.false found.0 in
     let change = back _ _ found.1 adjusts.change in
     step6_adjusts _ _ _ (view c.args.run) _ _ _ found.0 _ _ _ _ change c.if-run-budget.false

@@ -11,6 +11,6 @@ pub returns-then-words-eq2 : goal.returns-then-words-eq2
 unfolding taken
 returns-then-words-eq2 c = rw (le-ltb _ _ c.if-words-lt2.false, eq-eqb _ _ c.if-words-eq2.true)
 
-pub returns : goal.returns
+pub returns-else-words-eq2 : goal.returns-else-words-eq2
 unfolding taken
-returns c = rw (le-ltb _ _ c.if-words-lt2.false, ne_eqb _ _ c.if-words-eq2.false)
+returns-else-words-eq2 c = rw (le-ltb _ _ c.if-words-lt2.false, ne_eqb _ _ c.if-words-eq2.false)

@@ -4,20 +4,20 @@ use Rattle.ground.proofs.Arms.{coming_here, coming_next, coming_falls, came}
 use Rattle.quick.proofs.Comings.{good}
 use Rattle.quick.proofs.step.run_steps.Goals as goal
 
-pub loop-state-init : goal.loop-state-init
-loop-state-init c = record { coming = coming_here (good c.requires); held = c.requires }
-
-pub returns-then-is_over : goal.returns-then-is_over
-returns-then-is_over c =
-    let x = c.loop-state.invariant in
-    record { came = came x.coming (sym c.is_over.ensures ∙ c.if-is_over.true); held = x.held }
+pub steps-init : goal.steps-init
+steps-init c = record { coming = coming_here (good c.requires); held = c.requires }
 
 pub step-state-requires : goal.step-state-requires
-step-state-requires c = c.loop-state.invariant.held
+step-state-requires c = c.steps.invariant.held
 
-pub loop-state-smaller : goal.loop-state-smaller
-loop-state-smaller c =
-    coming_falls c.step-state.ensures.made c.loop-state.invariant.coming (sym c.is_over.ensures ∙ c.if-is_over.false)
+pub steps-smaller : goal.steps-smaller
+steps-smaller c =
+    coming_falls c.step-state.ensures.made c.steps.invariant.coming (sym c.is_over.ensures ∙ c.steps-test.true)
 
-pub loop-state-preserved : goal.loop-state-preserved
-loop-state-preserved c = record { coming = coming_next c.step-state.ensures.made c.loop-state.invariant.coming; held = c.step-state.ensures.held }
+pub steps-preserved : goal.steps-preserved
+steps-preserved c = record { coming = coming_next c.step-state.ensures.made c.steps.invariant.coming; held = c.step-state.ensures.held }
+
+pub returns : goal.returns
+returns c =
+    let x = c.steps.invariant in
+    record { came = came x.coming (sym c.is_over.ensures ∙ c.steps-test.false); held = x.held }

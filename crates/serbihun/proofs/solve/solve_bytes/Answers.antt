@@ -5,15 +5,15 @@ use Rattle.cost_bytes.proofs.ByteLaws.{readable_fits, readable_few, read_promise
 use Rattle.serbihun.proofs.solve.solve_bytes.Goals as goal
 
 pub decode-requires : goal.decode-requires
-decode-requires c = rw c.cells_to_read-cells.ensures (readable_fits _ _)
+decode-requires g c = rw c.cells_to_read-cells.ensures (readable_fits _ _)
 
 pub slice_bounds-numbers-end : goal.slice_bounds-numbers-end
-slice_bounds-numbers-end c = readable_few _ _ c.cells_to_read-cells.ensures c.decode.auto.costs
+slice_bounds-numbers-end g c = readable_few _ _ c.cells_to_read-cells.ensures c.decode.auto.costs
 
-pub slice_bounds-solve_by-end : goal.slice_bounds-solve_by-end
-slice_bounds-solve_by-end c =
+pub slice_bounds-solve_assignment-end : goal.slice_bounds-solve_assignment-end
+slice_bounds-solve_assignment-end g c =
     sym (length-take-le _ _ (readable_few _ _ c.cells_to_read-cells.ensures c.decode.auto.costs))
 
 pub returns : goal.returns
-returns c =
-    read_promise _ _ _ _ _ _ _ c.cells_to_read-cells.ensures c.decode.ensures c.solve_by.ensures
+returns g c =
+    read_promise _ _ _ _ _ _ _ c.cells_to_read-cells.ensures c.decode.ensures c.solve_assignment.ensures

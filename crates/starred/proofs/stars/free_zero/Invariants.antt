@@ -1,6 +1,5 @@
 -- `stars::free_zero` looks from column to column (`Missed`).
 use mathlib.Core.Bool.{not, ◌&&◌}
-use Prim.Native.Nat.{◌-◌}
 use lib.IntN.{◌-ℤ◌}
 use Rattle.lines.specs.Sets.{has}
 use Rattle.lines.proofs.Loops.{Missed}
@@ -10,7 +9,5 @@ use Rattle.starred.proofs.stars.free_zero.Given as goal
 
 abbrev pub invariant-loop-column : goal.invariant-loop-column
 invariant-loop-column l =
-    Missed (λ j. (allows l.n l.mask l.row j && is_zero (cost_at l.n l.costs l.row j -ℤ l.price)) && not (has l.taken j)) l.column
-
-abbrev pub decreases-loop-column : goal.decreases-loop-column
-decreases-loop-column l = l.n - l.column
+    let m = l.matrix in
+    Missed (λ j. (allows m.n m.mask.now l.row j && is_zero (cost_at m.n m.costs.now l.row j -ℤ l.price)) && not (has l.taken j)) l.column

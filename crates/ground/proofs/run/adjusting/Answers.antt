@@ -1,8 +1,0 @@
--- `run::adjusting` gives the definition's run.
-use mathlib.Core.Path.{refl}
-use Rattle.steps.specs.Steps.{adjusting}
-use Rattle.ground.proofs.run.adjusting.Goals as goal
-
-pub returns : goal.returns
-unfolding adjusting
-returns c = refl

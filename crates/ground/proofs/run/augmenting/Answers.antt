@@ -1,8 +1,0 @@
--- `run::augmenting` gives the definition's run.
-use mathlib.Core.Path.{refl}
-use Rattle.steps.specs.Steps.{augmenting}
-use Rattle.ground.proofs.run.augmenting.Goals as goal
-
-pub returns : goal.returns
-unfolding augmenting
-returns c = refl

@@ -1,7 +1,0 @@
--- `run::covering` gives the definition's run.
-use Rattle.steps.specs.Steps.{covering}
-use Rattle.ground.proofs.run.covering.Goals as goal
-
-pub returns : goal.returns
-unfolding covering
-returns c = rw (c.cover.ensures, c.uncover.ensures)

@@ -1,8 +1,0 @@
--- `run::reaching` gives the definition's run.
-use mathlib.Core.Path.{refl}
-use Rattle.steps.specs.Steps.{reaching}
-use Rattle.ground.proofs.run.reaching.Goals as goal
-
-pub returns : goal.returns
-unfolding reaching
-returns c = refl

@@ -1,8 +1,0 @@
--- `put_decimal` meets its contract: the fewest digits are `decimal`.
-use Rattle.text.proofs.NumberLaws.{digits_decimal}
-use Rattle.text.proofs.put_decimal.Goals as goal
-
-pub returns : goal.returns
-returns c =
-    let d = c.decimal-count.ensures in
-    rw (d.digits, digits_decimal _ _ d.len) at c.put.ensures

@@ -1,5 +1,0 @@
--- `try_all` ends: its measure is the number of turns that are left.
-use Rattle.trials.proofs.try_all.Given as goal
-
-abbrev pub decreases-loop-turns : goal.decreases-loop-turns
-decreases-loop-turns g l = l.turns
