@@ -46,8 +46,8 @@ module _ (file : List ℕ) (s : D.Scan) {n w : ℕ} (e : n ≡ u16_at file (s.at
 
 module _ (s next : D.Scan) (lines after : List ℕ) where
   pub line_refused : {e : Refusal} → JudgesLine s.n s.at lines (Err e) after → view_refusal e ≡ D.line s (length lines) next
-  line_refused (inl h) = rw h.1 (line_early s (length lines) next h.0)
-  line_refused (inr h) = rw h.2 (line_many s (length lines) next h.0 h.1)
+  line_refused (kept, inl h) = rw h.1 (line_early s (length lines) next h.0)
+  line_refused (kept, inr h) = rw h.2 (line_many s (length lines) next h.0 h.1)
 
   pub line_kept : JudgesLine s.n s.at lines (Ok tt) after → D.more next ≡ D.line s (length lines) next
   line_kept h = line_good s (length lines) next h.0 h.1
@@ -87,6 +87,10 @@ module _ (file : List ℕ) (s : D.Scan) where
           let four : get_or file s.at 0 ≡ 4 = sym e.0 ∙ ap code_of k in
           kind_end file s (λ q. absurd (omega (arith, four, q))) (λ q. absurd (omega (arith, four, q))) (λ q. absurd (omega (arith, four, q))) ∙ by_kind
 
+  -- what goes on stays consistent
+  pub more_consistent : {t : D.Scan} → D.Consistent file s → D.more t ≡ D.judge_record file s → D.Consistent file t
+  more_consistent h e = (subst (After file s) (sym e) (record_after file s h)).1
+
 -- ---- record after record
 
 -- the rest of the records gives the file's verdict, and there is room for them
@@ -121,9 +125,9 @@ module _ {file : List ℕ} {s : D.Scan} (g : Judging file s) where
           omega (arith, after.0, after.1.inside),
         )
 
-  pub judging_further : {s' : Scan} (kind : Kind) → (kind ≡ End → ⊥) → view_judged (Ok kind) s' ≡ D.judge_record file s
+  pub judging_further : (s' : Scan) (kind : Kind) → (kind ≡ End → ⊥) → view_judged (Ok kind) s' ≡ D.judge_record file s
       → Judging file (view_scan s') × (length file - s'.at < length file - s.at)
-  judging_further Size ne e = judging_next e
-  judging_further Fragment ne e = judging_next e
-  judging_further Event ne e = judging_next e
-  judging_further End ne e = absurd (ne refl)
+  judging_further s' Size ne e = judging_next e
+  judging_further s' Fragment ne e = judging_next e
+  judging_further s' Event ne e = judging_next e
+  judging_further s' End ne e = absurd (ne refl)

@@ -2,4 +2,5 @@ pub mod Numbers
 pub mod Scan
 pub mod Says
 pub mod Refused
+pub mod Listed
 pub mod View

@@ -1,25 +1,20 @@
 // The offsets of records of one kind, at most 64, in file order.
-ghost use Rattle.std.specs.Prelude.{◌≡◌, ◌≤◌, ◌<◌, ◌++◌, ◌∷◌, [], List, ℕ, length, take};
+ghost use Rattle.std.specs.Prelude.{◌≤◌};
 
-use std::marker::Model;
-
-#[derive(Drop)]
+// A list, `listed`; the places behind it hold nothing. No `impl Model`: it would forget those places, and what forgets a field is not `Copy`.
+#[derive(Clone, Copy)]
 pub struct Offsets {
     places: [usize; 64],
     count: usize,
-}
-
-impl Model for Offsets {
-    ghost Value = { List ℕ };
-
-    ghost view = { λ o. take o.count o.places };
-
-    ghost invariant = { λ o. o.count ≤ 64 };
+    pub ghost few: { count ≤ 64 },
 }
 
 impl Offsets {
+    ghost use Rattle.std.specs.Prelude.{◌≡◌, ◌<◌, ◌++◌, ◌∷◌, [], length};
+    ghost use Rattle.judgement.specs.Listed.{listed};
+
     pub(crate) fn new() -> Self
-        ensures { result ≡ [] }
+        ensures { listed result ≡ [] }
     {
         Offsets {
             places: [0; 64],
@@ -27,22 +22,28 @@ impl Offsets {
         }
     }
 
+    pub(crate) fn clear(&mut self)
+        ensures { listed self.new ≡ [] }
+    {
+        self.count = 0;
+    }
+
     pub(crate) fn push(&mut self, at: usize)
-        requires { length self.old < 64 }
-        ensures { self.new ≡ self.old ++ at ∷ [] }
+        requires { length (listed self.old) < 64 }
+        ensures { listed self.new ≡ listed self.old ++ at ∷ [] }
     {
         self.places[self.count] = at;
         self.count += 1;
     }
 
     pub fn len(&self) -> usize
-        ensures { result ≡ length self.now }
+        ensures { result ≡ length (listed self.now) }
     {
         self.count
     }
 
     pub fn as_slice(&self) -> &[usize]
-        ensures { result.now ≡ self.now }
+        ensures { result.now ≡ listed self.now }
     {
         &self.places[..self.count]
     }

@@ -1,6 +1,7 @@
 // The scan of a case file: what has been read, and the judgement of the record that is next.
-ghost use Rattle.std.specs.Prelude.{◌≡◌, ◌+◌, ◌≤◌, ◌<◌, length, List, ℕ};
+ghost use Rattle.std.specs.Prelude.{◌≡◌, ◌+◌, ◌≤◌, ◌<◌, length, List, ℕ, OnErr};
 ghost use Rattle.judgement.specs.Scan.{start, size as scan_size, end as scan_end, judge_record, Consistent};
+ghost use Rattle.judgement.specs.Listed.{listed};
 ghost use Rattle.judgement.specs.View.{view_scan, view_judged, goes_on, ended, JudgesLine};
 
 use crate::numbers::Number;
@@ -9,7 +10,7 @@ use crate::refusal::{Refusal, Rule};
 use records::Kind;
 
 // The offset of the next record, the size (0 before it is read), and the offsets of the fragments and events.
-#[derive(Drop)]
+#[derive(Clone, Copy)]
 pub struct Scan {
     pub at: usize,
     pub n: usize,
@@ -20,8 +21,8 @@ pub struct Scan {
 
 // A fragment or an event, which stands at an offset: after the size, and not one too many. Its offset is kept.
 fn judge_line(n: usize, lines: &mut Offsets, at: usize) -> Result<(), Refusal>
-    requires { (length lines.old ≤ n) × (n ≤ 64) }
-    ensures { JudgesLine n at lines.old result lines.new }
+    requires { (length (listed lines.old) ≤ n) × (n ≤ 64) }
+    ensures { JudgesLine n at (listed lines.old) result (listed lines.new) }
 {
     if n == 0 {
         return Err(Rule::Order.at(at));
@@ -35,7 +36,7 @@ fn judge_line(n: usize, lines: &mut Offsets, at: usize) -> Result<(), Refusal>
 
 impl Scan {
     // Before the first record.
-    pub(crate) fn start() -> Self
+    pub fn start() -> Self
         ensures { view_scan result ≡ start }
     {
         Scan {
@@ -47,10 +48,22 @@ impl Scan {
         }
     }
 
+    // The same, of a scan that was made before: its places need no clearing.
+    pub(crate) fn restart(&mut self)
+        ensures { view_scan self.new ≡ start }
+    {
+        self.at = 0;
+        self.n = 0;
+        self.window = 0;
+        self.fragments.clear();
+        self.events.clear();
+    }
+
     // A size record: first, and only once; n from 1 to 64, a window of at most 1,000,000,000.
     fn judge_size(&mut self, file: &[u8]) -> Result<(), Refusal>
         requires { Consistent file.now (view_scan self.old) × (self.old.at + 7 ≤ length file.now) }
-        ensures { goes_on result self.new ≡ scan_size file.now (view_scan self.old) }
+        ensures judged { goes_on result self.new ≡ scan_size file.now (view_scan self.old) }
+        ensures refused { OnErr result (self.new ≡ self.old) }
     {
         if self.n != 0 {
             return Err(Rule::Order.at(self.at));
@@ -86,7 +99,8 @@ impl Scan {
     // The record that is next: it is read, and its kind is given; or refused.
     pub(crate) fn judge_record(&mut self, file: &[u8]) -> Result<Kind, Refusal>
         requires { Consistent file.now (view_scan self.old) }
-        ensures { view_judged result self.new ≡ judge_record file.now (view_scan self.old) }
+        ensures judged { view_judged result self.new ≡ judge_record file.now (view_scan self.old) }
+        ensures consistent { Consistent file.now (view_scan self.new) }
     {
         let at = self.at;
         // A `match`, since the proof does not close over a `map_err` that adds the offset.
@@ -98,11 +112,11 @@ impl Scan {
             Kind::Size => self.judge_size(file)?,
             Kind::Fragment => {
                 judge_line(self.n, &mut self.fragments, at)?;
-                self.at += 9;
+                self.at = at + 9;
             }
             Kind::Event => {
                 judge_line(self.n, &mut self.events, at)?;
-                self.at += 7;
+                self.at = at + 7;
             }
             Kind::End => self.judge_end(file)?,
         }

@@ -8,6 +8,7 @@ ghost use Rattle.said.specs.Said.{said};
 ghost use Rattle.said.specs.Asks.{Readable};
 
 use judgement::numbers::Number;
+use judgement::scan::Scan;
 
 // The number so far behind each offset, as far as the room goes.
 fn put<T: Number>(file: &[u8], offsets: &[usize], shift: usize, out: &mut [T])
@@ -25,7 +26,8 @@ fn put<T: Number>(file: &[u8], offsets: &[usize], shift: usize, out: &mut [T])
 pub fn huts_of(file: &[u8], huts: &mut [u16])
     ensures { huts.new ≡ said hut_of file.now huts.old }
 {
-    if let Ok(scan) = judgement::judge_file(file) {
+    let mut scan = Scan::start();
+    if let Ok(()) = judgement::judge_file(file, &mut scan) {
         put(file, scan.fragments.as_slice(), 1, huts);
     }
 }
@@ -35,7 +37,8 @@ pub fn rows_of(file: &[u8], areas: &mut [u16], clocks: &mut [u32])
     ensures { (areas.new ≡ said row_area file.now areas.old)
         × (clocks.new ≡ said row_clock file.now clocks.old) }
 {
-    if let Ok(scan) = judgement::judge_file(file) {
+    let mut scan = Scan::start();
+    if let Ok(()) = judgement::judge_file(file, &mut scan) {
         put(file, scan.fragments.as_slice(), 3, areas);
         put(file, scan.fragments.as_slice(), 5, clocks);
     }
@@ -46,7 +49,8 @@ pub fn events_of(file: &[u8], areas: &mut [u16], clocks: &mut [u32])
     ensures { (areas.new ≡ said column_area file.now areas.old)
         × (clocks.new ≡ said column_clock file.now clocks.old) }
 {
-    if let Ok(scan) = judgement::judge_file(file) {
+    let mut scan = Scan::start();
+    if let Ok(()) = judgement::judge_file(file, &mut scan) {
         put(file, scan.events.as_slice(), 1, areas);
         put(file, scan.events.as_slice(), 3, clocks);
     }

@@ -6,6 +6,7 @@ ghost use Rattle.storm_case.specs.Case.{has_cells, case_from, read, hut as case_
 
 use judgement::numbers::Number;
 pub use judgement::refusal::{Refusal, Rule};
+use judgement::scan::Scan;
 pub use records::{Missing, body, find};
 pub use said::{events_of, huts_of, rows_of};
 
@@ -63,7 +64,8 @@ pub fn read_case(file: &[u8], costs: &mut [i32], mask: &mut [u8]) -> Result<Size
     if !has_cells(costs.len(), mask.len()) {
         return Err(Rule::Room.at(0));
     }
-    let scan = judgement::judge_file(file)?;
+    let mut scan = Scan::start();
+    judgement::judge_file(file, &mut scan)?;
     let cells = scan.n * scan.n;
     cells::fill(file, &scan, &mut costs[..cells], &mut mask[..cells]);
     Ok(Size {
@@ -76,7 +78,8 @@ pub fn read_case(file: &[u8], costs: &mut [i32], mask: &mut [u8]) -> Result<Size
 pub fn hut_of(file: &[u8], row: usize) -> Option<u16>
     ensures { result ≡ case_hut file.now row }
 {
-    let Ok(scan) = judgement::judge_file(file) else {
+    let mut scan = Scan::start();
+    let Ok(()) = judgement::judge_file(file, &mut scan) else {
         return None;
     };
     let &fragment = scan.fragments.as_slice().get(row)?;

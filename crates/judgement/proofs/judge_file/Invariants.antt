@@ -4,8 +4,8 @@ use Rattle.judgement.specs.View.{view_scan}
 use Rattle.judgement.proofs.ViewLaws.{Judging}
 use Rattle.judgement.proofs.judge_file.Given as goal
 
-abbrev pub invariant-loop-scan : goal.invariant-loop-scan
-invariant-loop-scan l = Judging l.file (view_scan l.scan)
+abbrev pub invariant-loop : goal.invariant-loop
+invariant-loop l = Judging l.file (view_scan l.scan)
 
-abbrev pub decreases-loop-scan : goal.decreases-loop-scan
-decreases-loop-scan l = length l.file - l.scan.at
+abbrev pub decreases-loop : goal.decreases-loop
+decreases-loop l = length l.file - l.scan.at
