@@ -16,7 +16,7 @@ use Rattle.ground.specs.View.{view}
 use Rattle.ground.proofs.Wide.{back64}
 use Rattle.std.specs.Int.{int_min}
 use Rattle.keyed.specs.Keys.{limit, value_of, row_of, column_of, names_zero, lowered_key, least_key}
-use Rattle.keyed.specs.Opening.{term_at}
+use Rattle.keyed.specs.Opening.{term_at, Opens}
 use Rattle.quick_steps.specs.Ways.{Primed, reaches, covers}
 use Rattle.quick_steps.specs.declared.State.{State}
 
@@ -48,6 +48,19 @@ module _ (B : ℕ) (best risen : ℤ) where
       go x true e n = refl
       go true false e n = sym e
       go false false e n = n
+
+-- ---- what the keys tell, told by keys that are the same for the n rows
+
+pub opens_same : {n rows columns : ℕ} (keys row_prices column_prices key key' : List ℤ) {best : ℤ} → ((i : ℕ) → i < n → get_or key' i (pos 0) ≡ get_or key i (pos 0))
+    → Opens n rows columns keys row_prices column_prices key best → Opens n rows columns keys row_prices column_prices key' best
+opens_same keys row_prices column_prices key key' same opens ok working told shut =
+    let o = opens ok working told shut in (
+      record {
+        low = λ i j hi hj here. rw (same i hi) (o.0.low i j hi hj here);
+        hit = λ i hi bare near. rw (same i hi) (o.0.hit i hi bare (rw (same i hi) at near));
+      },
+      o.1,
+    )
 
 -- ---- a column's price less the rise
 

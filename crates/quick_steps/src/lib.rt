@@ -1,7 +1,7 @@
 // Document 01's steps on keys and lines, one method for each. Only quick calls them, so they may have a `requires`.
 #![tactic(auto)]
 
-ghost use Rattle.std.specs.Prelude.{◌≡◌, pos, length};
+ghost use Rattle.std.specs.Prelude.{◌≡◌, ◌≤◌, pos, length};
 ghost use Rattle.lines.specs.Square.{table};
 ghost use Rattle.steps.specs.Steps.{augmenting};
 ghost use Rattle.ground.specs.View.{view};
@@ -37,8 +37,9 @@ pub fn start(
     opened: &mut Opened,
 ) -> State
     requires { Starts matrix.n matrix.costs.now matrix.mask.now keys.old row_prices.old column_prices.old }
-    ensures { let m = matrix.entry in
+    ensures started { let m = matrix.entry in
         Started m.n m.costs.now m.mask.now result keys.new row_prices.new column_prices.new stars.new.star stars.new.owner stars.new.prime opened.new.cheapest }
+    ensures kept { opened.new.key ≡ opened.old.key }
 {
     keys::fill(matrix, keys, &mut opened.cheapest);
     values::set_row_prices(matrix, &opened.cheapest, row_prices);
@@ -53,15 +54,22 @@ pub fn start(
     }
 }
 
-// A run taken up at step 4, with what it has covered: keys and least key are made anew.
-pub fn take_up(run: Run, priced: Priced, opened: &mut Opened) -> State
-    requires { Safe priced.n (pos 0) priced.keys.now priced.row_prices.now priced.column_prices.now }
-    ensures { let p = priced.entry in TakenUp p.n run p.keys.now p.row_prices.now p.column_prices.now result opened.new.key }
+// A run taken up at step 4, with what it has covered: keys and least key are made anew. No row's cheapest column is touched.
+pub fn take_up(run: Run, priced: Priced, key: &mut [i64]) -> State
+    requires safe { Safe priced.n (pos 0) priced.keys.now priced.row_prices.now priced.column_prices.now }
+    requires long { priced.n ≤ length key.old }
+    ensures { let p = priced.entry in TakenUp p.n run p.keys.now p.row_prices.now p.column_prices.now result key.new }
 {
+    let mut opened = Opened {
+        cheapest: [0; 64],
+        key: [0; 64],
+    };
+    let best = opened.open_uncovered(priced, run.rows, run.columns);
+    key[..priced.n].copy_from_slice(&opened.key[..priced.n]);
     State {
         run,
         risen: 0,
-        best: opened.open_uncovered(priced, run.rows, run.columns),
+        best,
     }
 }
 

@@ -65,6 +65,7 @@ impl Stars {
         ensures long { let n = matrix.entry.n in (n ≤ length self.new.star) × (n ≤ length self.new.owner) × (n ≤ length self.new.prime) }
         ensures star { let m = matrix.entry in (i : ℕ) → i < m.n → get_or self.new.star i 0 ≡ star_in_row m.n (first_marks m.n m.costs.now m.mask.now) i }
         ensures owner { let m = matrix.entry in (j : ℕ) → j < m.n → get_or self.new.owner j 0 ≡ star_in_column m.n (first_marks m.n m.costs.now m.mask.now) j }
+        ensures prime { self.new.prime ≡ self.old.prime }
     {
         self.star.fill(matrix.n);
         self.owner.fill(matrix.n);

@@ -30,8 +30,8 @@ star_rows-requires c =
       before = λ i h. none_before _ _ _ pre.fills.most (pre.rows i h) h (c.fill.ensures.1 i h);
     }
 
-pub returns : goal.returns
-returns c =
+pub returns-clause-started : goal.returns-clause-started
+returns-clause-started c =
     let pre = c.requires in
     record {
       begun = c.begun.ensures;

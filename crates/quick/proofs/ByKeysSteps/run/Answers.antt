@@ -28,7 +28,7 @@ start-begun-requires c =
 pub run_steps-ended-requires : goal.run_steps-ended-requires
 run_steps-ended-requires c =
     let b = c.requires in
-    (held_started b.frame (holds b) b.kept c.start-begun.result c.start-begun.ensures).0
+    (held_started b.frame (holds b) b.kept c.start-begun.result c.start-begun.ensures.started).0
 
 pub write_working-requires : goal.write_working-requires
 write_working-requires c = write_asks c.run_steps-ended.ensures c.requires.asks.costs_square (search rules)
@@ -37,5 +37,5 @@ pub returns : goal.returns
 returns c =
     let b = c.requires in
     came_to c.run_steps-ended.ensures
-    (held_started b.frame (holds b) b.kept c.start-begun.result {opened = c.start-begun.new.opened} c.start-begun.ensures).1
+    (held_started b.frame (holds b) b.kept c.start-begun.result {opened = c.start-begun.new.opened} c.start-begun.ensures.started).1
     c.write_working.ensures c.write_marks.ensures
