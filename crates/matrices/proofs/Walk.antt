@@ -45,6 +45,10 @@ module _ {n : ℕ} {marks : List ℕ} {row column : ℕ} {done : List (ℕ × �
   pub walked_last : None ≡ found n (star_in_column n marks j) → done ++ (i, j) ∷ [] ≡ path n marks n row column
   walked_last e = rw (← path_last n marks w.left i j (none_found n _ (sym e))) w.rest
 
+  -- a turn has room for a prime and a star, and the last needs no star
+  pub walked_few : length (done ++ (i, j) ∷ []) < 2 * n
+  walked_few = simp length-append (omega (arith, w.room))
+
   module _ {o : ℕ} (e : Some o ≡ found n (star_in_column n marks j)) where
     star : star_in_column n marks j ≡ o
     star = (some_found n _ o (sym e)).0

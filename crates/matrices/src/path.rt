@@ -1,5 +1,5 @@
 // Step 5's path: its places are recorded first, and flipped then.
-ghost use Rattle.std.specs.Prelude.{◌≡◌, ◌<◌, ◌≤◌, ℕ, List, [], ◌∷◌, ◌++◌, length, get_or};
+ghost use Rattle.std.specs.Prelude.{◌≡◌, ◌<◌, ◌≤◌, ◌*◌, ℕ, List, [], ◌∷◌, ◌++◌, length, get_or};
 ghost use Rattle.steps.specs.Steps.{path as steps_path, flip};
 ghost use Rattle.matrices.specs.Path.{zipped, Walks, Flips};
 
@@ -42,13 +42,13 @@ impl Path {
         self.count += 1;
     }
 
-    fn len(&self) -> usize
+    pub fn len(&self) -> usize
         ensures { result ≡ length self.now }
     {
         self.count
     }
 
-    fn place(&self, k: usize) -> (usize, usize)
+    pub fn place(&self, k: usize) -> (usize, usize)
         requires { k < length self.now }
         ensures { result ≡ get_or self.now k (0, 0) }
     {
@@ -60,7 +60,8 @@ impl Path {
 // From the prime at (row, column) to the star in its column, to the prime in that star's row, and so on.
 pub fn find_path(n: usize, marks: &[u8], row: usize, column: usize) -> Path
     requires { Walks n marks.now row column }
-    ensures { result ≡ steps_path n marks.now n row column }
+    ensures whole { result ≡ steps_path n marks.now n row column }
+    ensures few { length result < 2 * n }
 {
     let mut path = Path::empty();
     let mut i = row;

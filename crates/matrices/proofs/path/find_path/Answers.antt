@@ -2,14 +2,17 @@
 use mathlib.Core.Path.{◌∙◌}
 use native.Mathlib.Omega.{arith}
 use lib.ListN.{length-append}
-use Rattle.matrices.proofs.Walk.{walked_none, walked_last, walked_star, walked_on, walked_prime, walked_more}
+use Rattle.matrices.proofs.Walk.{walked_none, walked_last, walked_few, walked_star, walked_on, walked_prime, walked_more}
 use Rattle.matrices.proofs.path.find_path.Goals as goal
 
 pub loop-star-init : goal.loop-star-init
 loop-star-init c = rw c.empty-path.ensures (walked_none _ _ _ _ c.requires)
 
-pub returns-in_default : goal.returns-in_default
-returns-in_default c = c.push.ensures ∙ walked_last c.loop-star.invariant c.in_default.ensures
+pub returns-in_default-clause-whole : goal.returns-in_default-clause-whole
+returns-in_default-clause-whole c = c.push.ensures ∙ walked_last c.loop-star.invariant c.in_default.ensures
+
+pub returns-in_default-clause-few : goal.returns-in_default-clause-few
+returns-in_default-clause-few c = rw c.push.ensures (walked_few c.loop-star.invariant)
 
 pub push-requires-in-loop-star : goal.push-requires-in-loop-star
 push-requires-in-loop-star c = rw c.push.ensures (simp length-append (omega (arith, walked_on c.loop-star.invariant c.in-Some.ensures)))

@@ -6,7 +6,7 @@ use Rattle.munkres.proofs.step.step_5.Goals as goal
 pub toggle_path-requires : goal.toggle_path-requires
 toggle_path-requires c =
     let p = c.requires in
-    path_flips _ _ _ _ _ p.marks_square p.ends c.find_path-path.ensures
+    path_flips _ _ _ _ _ p.marks_square p.ends c.find_path-path.ensures.whole
 
 pub augmenting-requires : goal.augmenting-requires
 augmenting-requires c =
@@ -15,4 +15,4 @@ augmenting-requires c =
 pub returns : goal.returns
 unfolding step5
 returns c =
-    rw (c.augmenting.ensures, c.clear_primes.ensures, c.toggle_path.ensures, c.find_path-path.ensures)
+    rw (c.augmenting.ensures, c.clear_primes.ensures, c.toggle_path.ensures, c.find_path-path.ensures.whole)
