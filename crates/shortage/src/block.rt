@@ -31,6 +31,7 @@ fn put_these(text: &mut Text, count: usize, one: &[u8], more: &[u8])
 }
 
 // The line of a row, where the set has it.
+#[tactic(auto, using(text::proofs::PutLaws::puts_none), unfolding(crate::specs::Block::block_row))]
 fn put_block_row(text: &mut Text, rows: u64, row: usize, hut: u16)
     requires { row < 64 }
     ensures { Puts text.old (block_row rows row hut) text.new }

@@ -1,5 +1,4 @@
 // Why no pairing costs less, put into a text: the prices' sum as a bound, and every allowed pair with what it has to spare.
-// Only price_list calls it, so that it may have a `requires`.
 #![tactic(auto)]
 
 ghost use Rattle.std.specs.Prelude.{◌*◌, ◌<◌};
@@ -46,6 +45,7 @@ fn put_allowed_of(text: &mut Text, solved: &Solved, row: usize, event: usize)
 }
 
 // The line of a cell, where its pair is allowed.
+#[tactic(auto, using(text::proofs::PutLaws::puts_none), unfolding(crate::specs::Spares::cell_line))]
 fn put_cell(text: &mut Text, solved: &Solved, place: usize)
     requires { place < solved.now.n * solved.now.n }
     ensures { Puts text.old (cell_line solved.now.n solved.now.costs solved.now.mask solved.now.working
