@@ -1,8 +1,16 @@
 -- The numbers that a stored call says, and what it is that they say.
-use Rattle.std.specs.Prelude.{◌≡◌, List, ℕ, ◌+◌, ◌<◌, ℤ, pos, length, get_or}
+use Rattle.std.specs.Prelude.{◌≡◌, cond, List, ℕ, ◌+◌, ◌<◌, ℤ, pos, negsuc, nat_abs, length, get_or}
+use Rattle.std.specs.Int.Signed.{lt_z}
 use Rattle.std.specs.Int.{w64}
 use Rattle.std.proofs.Common.{to_z}
 use Rattle.steps.specs.declared.Answer.{Answer}
+
+-- what 32 bits do not hold is no cost, what 8 bits do not hold no mask byte
+unfoldable pub cost_of : ℤ → ℤ
+cost_of z = cond (lt_z z (negsuc 2_147_483_647)) (pos 0) (cond (lt_z (pos 2_147_483_647) z) (pos 0) z)
+
+unfoldable pub byte_of : ℤ → ℕ
+byte_of z = cond (lt_z z (pos 0)) 0 (cond (lt_z (pos 255) z) 0 (nat_abs z))
 
 -- 64 bits in two's complement
 abbrev pub signed_of : ℕ → ℤ

@@ -13,9 +13,9 @@ pub use numbers::{
     ALL, ANSWER, CELLS, COLUMN_PRICES, COLUMNS, COSTS, LINES, MARKS, MASK, Numbers, ROW_PRICES,
     WORKING, put, says,
 };
+use numbers::{costs_of, mask_of};
 use quick::ByKeys;
 use solvers::{Steps, solve_assignment};
-use std::array;
 use steps::Answer;
 
 // How long each list is.
@@ -65,15 +65,15 @@ fn is_answer(said: &Numbers, answer: Answer) -> bool
     says(said, ANSWER, &numbers)
 }
 
-// Costs and mask must be as they were lent. What is said of them and does not fit their types is lent as 0.
+// Costs and mask must be as they were lent.
 fn is_kept_by<S: Steps>(call: Call, said: &Numbers) -> bool
     requires { Fits call.lengths }
     ensures { result ≡ true → Kept call said.now }
 {
     let lengths = call.lengths;
     let before = call.before;
-    let costs: [i32; CELLS] = array::from_fn(|i| i32::try_from(said[COSTS + i]).unwrap_or(0));
-    let mask: [u8; CELLS] = array::from_fn(|i| u8::try_from(said[MASK + i]).unwrap_or(0));
+    let costs = costs_of(said, lengths.costs);
+    let mask = mask_of(said, lengths.mask);
     let costs = &costs[..lengths.costs];
     let mask = &mask[..lengths.mask];
     let mut working = [before.working; CELLS];

@@ -1,6 +1,6 @@
 // The numbers that a stored call says: list after list, each in a room of its own.
-ghost use Rattle.std.specs.Prelude.{◌≡◌, true, ◌+◌, ◌<◌, set};
-ghost use Rattle.calls.specs.Numbers.{SaysAll};
+ghost use Rattle.std.specs.Prelude.{◌≡◌, true, ◌+◌, ◌<◌, ◌≤◌, ℕ, pos, length, get_or, set};
+ghost use Rattle.calls.specs.Numbers.{cost_of as numbers_cost_of, byte_of as numbers_byte_of, SaysAll};
 
 // The room of a list with a number for each cell of 65 rows, and of one with a number for each line.
 pub const CELLS: usize = 4225;
@@ -49,4 +49,46 @@ pub fn says<T: Copy + Into<i64>>(said: &Numbers, start: usize, numbers: &[T]) ->
         }
     }
     true
+}
+
+// A number as a cost; 0 where it is none.
+#[tactic(auto, unfolding(crate::specs::Numbers::cost_of))]
+fn cost_of(number: i64) -> i32
+    ensures { result ≡ numbers_cost_of number }
+{
+    i32::try_from(number).unwrap_or(0)
+}
+
+// A number as a mask byte; 0 where it is none.
+#[tactic(auto, unfolding(crate::specs::Numbers::byte_of))]
+fn byte_of(number: i64) -> u8
+    ensures { result ≡ numbers_byte_of number }
+{
+    u8::try_from(number).unwrap_or(0)
+}
+
+// The costs that are lent, which are said from the front on: no more are made than are lent.
+pub(crate) fn costs_of(said: &Numbers, count: usize) -> [i32; CELLS]
+    requires { count ≤ 4225 }
+    ensures long { length result ≡ 4225 }
+    ensures lent { (i : ℕ) → i < count → get_or result i (pos 0) ≡ numbers_cost_of (get_or said.now i (pos 0)) }
+{
+    let mut costs = [0i32; CELLS];
+    for i in 0..count {
+        costs[i] = cost_of(said[i]);
+    }
+    costs
+}
+
+// The mask bytes.
+pub(crate) fn mask_of(said: &Numbers, count: usize) -> [u8; CELLS]
+    requires { count ≤ 4225 }
+    ensures long { length result ≡ 4225 }
+    ensures lent { (i : ℕ) → i < count → get_or result i 0 ≡ numbers_byte_of (get_or said.now (4225 + i) (pos 0)) }
+{
+    let mut mask = [0u8; CELLS];
+    for i in 0..count {
+        mask[i] = byte_of(said[MASK + i]);
+    }
+    mask
 }

@@ -104,6 +104,17 @@ fn read_lengths(words: &mut Words<'_>) -> Result<Lengths, Misread>
     })
 }
 
+// The numbers of the next call are read, and it is made. They have a function of their own, whose room is cleared once.
+fn is_next_kept(words: &mut Words<'_>, call: Call) -> Result<bool, Misread>
+    requires { Fits call.lengths }
+{
+    let mut said = [0i64; ALL];
+    for list in lists(call.lengths) {
+        list.read(words, &mut said)?;
+    }
+    Ok(calls::is_kept(call, &said))
+}
+
 // Is the next call kept?
 pub(crate) fn call(words: &mut Words<'_>) -> Result<bool, Misread> {
     let lengths = read_lengths(words)?;
@@ -111,10 +122,6 @@ pub(crate) fn call(words: &mut Words<'_>) -> Result<bool, Misread> {
     let n = words.count(usize::MAX)?;
     words.expect(b"budget")?;
     let budget = words.count(u32::MAX as usize)? as u32;
-    let mut said = [0i64; ALL];
-    for list in lists(lengths) {
-        list.read(words, &mut said)?;
-    }
     let call = Call {
         n,
         budget,
@@ -122,5 +129,5 @@ pub(crate) fn call(words: &mut Words<'_>) -> Result<bool, Misread> {
         before: BEFORE,
         marks_said: true,
     };
-    Ok(calls::is_kept(call, &said))
+    is_next_kept(words, call)
 }

@@ -1,5 +1,6 @@
 -- `is_kept_by` lends as much of each list as it is long, which is there.
 use mathlib.Core.Path.{◌∙◌}
+use native.Mathlib.Omega.{arith}
 use lib.Seq.{length-take-le}
 use lib.IntN.{pos}
 use mir.Facts.{to_z-of_z}
@@ -18,8 +19,8 @@ returns g c =
     let b = c.args.call.before in
     let kept = c.solve_assignment-answer.auto in
     let last = c.solve_assignment-answer.new in
-    let costs_long = length-take-le l.costs c.from_fn-costs.result (search rules) in
-    let mask_long = length-take-le l.mask c.from_fn-mask.result (search rules) in λ e.
+    let costs_long = length-take-le l.costs c.costs_of-costs.result (omega (arith, c.costs_of-costs.ensures.long, c.requires.costs)) in
+    let mask_long = length-take-le l.mask c.mask_of-mask.result (omega (arith, c.mask_of-mask.ensures.long, c.requires.mask)) in λ e.
     let t8 = both _ _ e in
     let t7 = both _ _ t8.0 in
     let t6 = both _ _ t7.0 in
