@@ -24,11 +24,10 @@ fn judge_line(n: usize, lines: &mut Offsets, at: usize) -> Result<(), Refusal>
     requires { (length (listed lines.old) ≤ n) × (n ≤ 64) }
     ensures { JudgesLine n at (listed lines.old) result (listed lines.new) }
 {
-    if n == 0 {
-        return Err(Rule::Order.at(at));
-    }
+    // Before the size there is room for none.
     if lines.len() == n {
-        return Err(Rule::Count.at(at));
+        let rule = if n == 0 { Rule::Order } else { Rule::Count };
+        return Err(rule.at(at));
     }
     lines.push(at);
     Ok(())

@@ -37,16 +37,15 @@ impl TryFrom<u8> for Kind {
     }
 }
 
+// By kind, in their order.
+static BODY_LENGTHS: [usize; 4] = [6, 8, 6, 0];
+
 impl Kind {
     #[tactic(auto, unfolding(crate::specs::Records::body_length))]
     fn body_length(self) -> usize
         ensures { result ≡ body_length (code_of self) }
     {
-        match self {
-            Kind::Size | Kind::Event => 6,
-            Kind::Fragment => 8,
-            Kind::End => 0,
-        }
+        BODY_LENGTHS[self as usize]
     }
 }
 
