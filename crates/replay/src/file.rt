@@ -31,21 +31,16 @@ fn match_cells(
     mask: &[u8; CELLS],
 ) -> Option<()> {
     let within = cells.min(CELLS);
-    let (costs, more_costs) = costs.split_at(within);
-    let (mask, more_mask) = mask.split_at(within);
-    for &cost in costs {
-        if record.i32()? != cost {
-            return None;
-        }
+    let mut stored_costs = [JUNK_COST; CELLS];
+    for cost in &mut stored_costs[..within] {
+        *cost = record.i32()?;
     }
     for _ in within..cells {
         record.i32()?;
     }
-    let stored = record.take(cells)?.get(..within)?;
-    let same = stored == mask
-        && more_costs.iter().all(|&cost| cost == JUNK_COST)
-        && more_mask.iter().all(|&byte| byte == JUNK_BYTE);
-    same.then_some(())
+    let mut stored_mask = [JUNK_BYTE; CELLS];
+    stored_mask[..within].copy_from_slice(record.take(cells)?.get(..within)?);
+    (stored_costs == *costs && stored_mask == *mask).then_some(())
 }
 
 // What stands at an offset: 0 and the body, or the number of a refusal.
