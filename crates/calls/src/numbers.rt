@@ -80,7 +80,7 @@ pub(crate) fn costs_of(said: &Numbers, count: usize) -> [i32; CELLS]
     costs
 }
 
-// The mask bytes.
+// The mask bytes that are lent.
 pub(crate) fn mask_of(said: &Numbers, count: usize) -> [u8; CELLS]
     requires { count ≤ 4225 }
     ensures long { length result ≡ 4225 }

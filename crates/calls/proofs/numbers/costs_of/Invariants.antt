@@ -1,4 +1,4 @@
--- `costs_of` has made the numbers below i.
+-- `costs_of` has made the costs below i.
 use Rattle.std.proofs.Common.{pos}
 use lib.ListN.{get_or, replicate}
 use Rattle.lines.proofs.Loops.{Passed}
